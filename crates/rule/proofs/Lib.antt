@@ -1,0 +1,6 @@
+pub mod Tests
+pub mod Counting
+pub mod Legality
+pub mod Loops
+pub mod Determined
+pub mod Outcomes

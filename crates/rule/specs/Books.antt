@@ -1,0 +1,109 @@
+-- A book as a design, and when it is sound.
+--
+-- In order: edge e of an array; the design, the forests and the kept edges of a book; the ranges of document 01, "Sizes"; the
+-- rule of each place (0 the head, e edge e); sound, and the first place that breaks a rule; a design with one edge more.
+use mathlib.Core.Path.{_≡_}
+use mathlib.Core.Logic.{_⊎_, _≢_}
+use mathlib.Core.List.{List}
+use Prim.Native.Nat.{ℕ, zero, suc, _≤_, _<_}
+use lib.ListN.{getD, set}
+use Rattle.rule.specs.declared.Book.{Book}
+use Rattle.rule.specs.Sets.{_=?_, Set, In, put, below}
+use Rattle.rule.specs.Legal.{Design}
+use Rattle.rule.specs.Forests.{Chain, inForest, keptIn, Permitted}
+
+-- what an array holds of edge e: edges count from 1, places of an array from 0
+unfoldable pub at : List ℕ → ℕ → ℕ
+at list zero = 0
+at list (suc i) = getD list i 0
+
+unfoldable pub designOf : Book → Design
+designOf B =
+    record {
+      a = B .a;
+      b = B .b;
+      n = B .n;
+      m = B .count;
+      one = at (B .ones);
+      other = at (B .others);
+      red = λ e. at (B .colours) e =? 1;
+    }
+
+abbrev pub forestOf : Book → ℕ → ℕ
+forestOf B = at (B .forests)
+
+abbrev pub keptOf : Book → Set
+keptOf B = keptIn (designOf B) (forestOf B)
+
+-- ---- ranges
+
+-- a and b each 1 to 3
+abbrev pub ProfileRange : ℕ → ℕ → Type 0
+ProfileRange a b = In 3 a × In 3 b
+
+-- n 1 to 64
+abbrev pub BodiesRange : ℕ → Type 0
+BodiesRange n = In 64 n
+
+-- 512 edges in a book
+abbrev pub capacity : ℕ
+capacity = 512
+
+-- 1 red, 2 black
+abbrev pub ColourRange : ℕ → Type 0
+ColourRange c = (c ≡ 1) ⊎ (c ≡ 2)
+
+-- ---- the rules of a book
+
+pub record HeadRule (B : Book) : Type 0 where
+  pub profile : ProfileRange (B .a) (B .b)
+  pub bodies : BodiesRange (B .n)
+  pub edges : B .count ≤ capacity
+
+-- edge e has two different bodies in 1 to n, a colour and a permitted forest number, and closes no loop of its forest among the
+-- edges of smaller number
+pub record EdgeRule (B : Book) (e : ℕ) : Type 0 where
+  pub one : In (B .n) (at (B .ones) e)
+  pub other : In (B .n) (at (B .others) e)
+  pub different : at (B .ones) e ≢ at (B .others) e
+  pub colour : ColourRange (at (B .colours) e)
+  pub permitted : Permitted (designOf B) (forestOf B) e
+  pub closes-none :
+      1 ≤ forestOf B e → ¬ Chain (designOf B) (below (inForest (forestOf B) (forestOf B e)) e) (at (B .ones) e) (at (B .others) e)
+
+-- the rule of a place: 0 is the head, e is edge e
+unfoldable pub Obeys : Book → ℕ → Type 0
+Obeys B zero = HeadRule B
+Obeys B (suc i) = EdgeRule B (suc i)
+
+unfoldable pub Sound : Book → Type 0
+Sound B = (place : ℕ) → place ≤ B .count → Obeys B place
+
+-- the first place that breaks its rule
+pub record FirstBad (B : Book) (place : ℕ) : Type 0 where
+  pub within : place ≤ B .count
+  pub breaks : ¬ Obeys B place
+  pub first : (before : ℕ) → before < place → Obeys B before
+
+-- ---- one edge more
+
+-- the design with one edge more, between u and v
+unfoldable pub plus : Design → (u v colour : ℕ) → Design
+plus d u v colour =
+    record {
+      a = d .a;
+      b = d .b;
+      n = d .n;
+      m = suc (d .m);
+      one = put (d .one) (suc (d .m)) u;
+      other = put (d .other) (suc (d .m)) v;
+      red = put (d .red) (suc (d .m)) (colour =? 1);
+    }
+
+-- the number of the edge that is offered
+abbrev pub next : Book → ℕ
+next B = suc (B .count)
+
+-- the design of a book with the offered edge. (A question may be asked of a full book: the offered edge needs no place in it.)
+abbrev pub offered : Book → (u v colour : ℕ) → Design
+offered B u v colour = plus (designOf B) u v colour

@@ -1,0 +1,144 @@
+-- What each call answers and leaves behind, for every input, refusals included.
+--
+-- In order: a book of zeros; opening; an offer; a question; freedom, dropped and the verdict; the group list.
+-- The base leaves one thing open, the choice of forests and with it moved: an offer may choose any permitted forests.
+use mathlib.Core.Path.{_≡_}
+use mathlib.Core.Logic.{_↔_}
+use mathlib.Core.Bool.{true}
+use mathlib.Core.List.{List, _++_}
+use Prim.Native.Nat.{ℕ, suc, _≤_, _<_}
+use lib.ListN.{length, getD, set, take, drop, replicate}
+use Rattle.rule.specs.declared.Book.{Book}
+use Rattle.rule.specs.declared.Answer.{Answer}
+use Rattle.rule.specs.declared.Answer.the-variants.{Kept, Implied, Refused}
+use Rattle.rule.specs.declared.Done.{Done}
+use Rattle.rule.specs.declared.Figure.{Figure}
+use Rattle.rule.specs.declared.Judged.{Judged}
+use Rattle.rule.specs.Sets.{Set, Is, In, _with_}
+use Rattle.rule.specs.Legal.{Design, Keeps, Implies, Circuit}
+use Rattle.rule.specs.Forests.{keptIn, Arranged, moved}
+use Rattle.rule.specs.Figures.{freedom, dropped, verdict, Groups}
+use Rattle.rule.specs.Books.{designOf, forestOf, keptOf, offered, next}
+use Rattle.rule.specs.Reasons.{Pass, Fail, openingChecks, questionChecks, offerChecks, bookChecks, groupsChecks}
+
+-- ---- books
+
+-- a book with this head, and zeros in every edge place
+unfoldable pub newBook : (a b n : ℕ) → Book
+newBook a b n =
+    record {
+      a = a;
+      b = b;
+      n = n;
+      count = 0;
+      ones = replicate 512 0;
+      others = replicate 512 0;
+      colours = replicate 512 0;
+      forests = replicate 512 0;
+    }
+
+-- zeros throughout, head and places
+abbrev pub zeroBook : Book
+zeroBook = newBook 0 0 0
+
+-- after is before with one edge more, between u and v, all but its forest: the other places are as they were
+pub record Adds (before after : Book) (u v colour : ℕ) : Type 0 where
+  pub a : after .a ≡ before .a
+  pub b : after .b ≡ before .b
+  pub n : after .n ≡ before .n
+  pub count : after .count ≡ next before
+  pub ones : after .ones ≡ set (before .ones) (before .count) u
+  pub others : after .others ≡ set (before .others) (before .count) v
+  pub colours : after .colours ≡ set (before .colours) (before .count) colour
+
+-- the first places of the list hold the answer, the places past it what they held
+abbrev pub Filled : List ℕ → List ℕ → List ℕ → Type 0
+Filled answer list listed = listed ≡ answer ++ drop (length answer) list
+
+-- ---- opening
+
+abbrev pub Open : (a b n : ℕ) → Book → Done → Type 0
+Open a b n book Done.Fine = Pass (openingChecks a b n) × (book ≡ newBook a b n)
+Open a b n book (Done.Refused reason) = Fail (openingChecks a b n) reason × (book ≡ zeroBook)
+
+-- ---- what is said of an offered edge
+
+-- it is kept. Under the forests given, the earlier edges that were kept and no others are kept still, all stand as they may,
+-- and so many of the earlier ones have another forest than before
+pub record KeepsIt (B : Book) (u v colour : ℕ) (forest : ℕ → ℕ) (count : ℕ) : Type 0 where
+  pub keeps : Keeps (offered B u v colour) (keptOf B) (next B)
+  pub arranged : Arranged (offered B u v colour) forest
+  pub new : 1 ≤ forest (next B)
+  pub earlier : (e : ℕ) → In (B .count) e → ((1 ≤ forest e) ↔ (1 ≤ forestOf B e))
+  pub moves : count ≡ moved (forestOf B) forest (B .count)
+
+-- it is implied. So many edges are its circuit, and the first places of the list hold them
+pub record ImpliesIt (B : Book) (u v colour : ℕ) (list listed : List ℕ) (count : ℕ) : Type 0 where
+  pub implies : Implies (offered B u v colour) (keptOf B) (next B)
+  pub circuit : List ℕ
+  pub is-circuit : Circuit (offered B u v colour) (keptOf B) (next B) circuit
+  pub number : count ≡ length circuit
+  pub fills : Filled circuit list listed
+
+-- ---- an offer
+
+pub record OfferKept (before after : Book) (u v colour : ℕ) (list listed : List ℕ) (count : ℕ) : Type 0 where
+  pub checked : Pass (offerChecks before u v colour list)
+  pub says : KeepsIt before u v colour (forestOf after) count
+  pub adds : Adds before after u v colour
+  pub as-long : length (after .forests) ≡ length (before .forests)
+  pub past : drop (next before) (after .forests) ≡ drop (next before) (before .forests)
+  pub unwritten : listed ≡ list
+
+pub record OfferImplied (before after : Book) (u v colour : ℕ) (list listed : List ℕ) (count : ℕ) : Type 0 where
+  pub checked : Pass (offerChecks before u v colour list)
+  pub says : ImpliesIt before u v colour list listed count
+  pub adds : Adds before after u v colour
+  pub forests : after .forests ≡ set (before .forests) (before .count) 0
+
+abbrev pub Offer : (before after : Book) (u v colour : ℕ) (list listed : List ℕ) → Answer → Type 0
+Offer before after u v colour list listed (Kept count) = OfferKept before after u v colour list listed count
+Offer before after u v colour list listed (Implied count) = OfferImplied before after u v colour list listed count
+Offer before after u v colour list listed (Refused reason) =
+    Fail (offerChecks before u v colour list) reason × (after ≡ before) × (listed ≡ list)
+
+-- ---- a question: it answers as an offer would, may be asked of a full book, and changes nothing in the book
+
+pub record QuestionKept (B : Book) (u v colour : ℕ) (list listed : List ℕ) (count : ℕ) : Type 0 where
+  pub checked : Pass (questionChecks B u v colour list)
+  pub forest : ℕ → ℕ
+  pub says : KeepsIt B u v colour forest count
+  pub unwritten : listed ≡ list
+
+pub record QuestionImplied (B : Book) (u v colour : ℕ) (list listed : List ℕ) (count : ℕ) : Type 0 where
+  pub checked : Pass (questionChecks B u v colour list)
+  pub says : ImpliesIt B u v colour list listed count
+
+abbrev pub Question : Book → (u v colour : ℕ) (list listed : List ℕ) → Answer → Type 0
+Question B u v colour list listed (Kept count) = QuestionKept B u v colour list listed count
+Question B u v colour list listed (Implied count) = QuestionImplied B u v colour list listed count
+Question B u v colour list listed (Refused reason) = Fail (questionChecks B u v colour list) reason × (listed ≡ list)
+
+-- ---- freedom, dropped, verdict
+
+abbrev pub Freedom : Book → Figure → Type 0
+Freedom B (Figure.Number number) = Pass (bookChecks B) × (number ≡ freedom (designOf B) (keptOf B))
+Freedom B (Figure.Refused reason) = Fail (bookChecks B) reason
+
+abbrev pub Dropped : Book → Figure → Type 0
+Dropped B (Figure.Number number) = Pass (bookChecks B) × (number ≡ dropped (designOf B) (keptOf B))
+Dropped B (Figure.Refused reason) = Fail (bookChecks B) reason
+
+abbrev pub Judge : Book → Judged → Type 0
+Judge B (Judged.Verdict v) = Pass (bookChecks B) × (v ≡ verdict (designOf B) (keptOf B))
+Judge B (Judged.Refused reason) = Fail (bookChecks B) reason
+
+-- ---- the group list
+
+abbrev pub Grouped : Book → (list listed : List ℕ) → Done → Type 0
+Grouped B list listed Done.Fine =
+    Pass (groupsChecks B list)
+    × Groups (designOf B) (keptOf B) (take (B .n) listed)
+    × (drop (B .n) listed ≡ drop (B .n) list)
+    × (length listed ≡ length list)
+Grouped B list listed (Done.Refused reason) = Fail (groupsChecks B list) reason × (listed ≡ list)
