@@ -1,0 +1,5 @@
+pub mod Numbers
+pub mod Joined
+pub mod Rank
+pub mod Legal
+pub mod Closed

@@ -1,0 +1,4 @@
+pub mod Leaders
+pub mod Laws
+pub mod Sparse
+pub mod Touched
