@@ -2,7 +2,7 @@
 --
 -- In order: cases; `and`, `or`, `isnt`; the tests on numbers; `put`, `with`, `without`, `below`; numbers in range.
 -- Assumes nothing.
-use mathlib.Core.Path.{_≡_, refl, sym, ap, _∙_, subst}
+use mathlib.Core.Path.{_≡_, refl, sym, ap, _∙_, subst, fun-ext}
 use mathlib.Core.Logic.{_⊎_, inl, inr, _↔_, _≢_}
 use mathlib.Core.Bool.{Bool, true, false, cond, true≢false, false≢true}
 use Prim.Native.Nat.{ℕ, suc, _≤_, _<_}
@@ -137,6 +137,44 @@ module _ {A : Type 0} (f : ℕ → A) where
   put-cases P x v at-x else i =
       by-eq i x (λ e. subst (λ (j : ℕ). P j (put f x v j)) (sym e) (subst (P x) (sym (put-same x v)) at-x))
       (λ ne. subst (P i) (sym (put-other x v i ne)) (else i ne))
+
+  -- to put what is there changes nothing; the later of two values at one number stays; at two numbers the order does not matter
+  pub put-id : (x : ℕ) (v : A) → f x ≡ v → put f x v ≡ f
+  put-id x v q =
+      fun-ext (λ i. by-eq i x (λ e. subst (λ (j : ℕ). put f x v j ≡ f j) (sym e) (put-same x v ∙ sym q)) (λ ne. put-other x v i ne))
+
+pub put-put : {A : Type 0} (f : ℕ → A) (x : ℕ) (v w : A) → put (put f x v) x w ≡ put f x w
+put-put f x v w =
+    fun-ext
+    (λ i.
+    by-eq i x (λ e. subst (λ (j : ℕ). put (put f x v) x w j ≡ put f x w j) (sym e) (put-same (put f x v) x w ∙ sym (put-same f x w)))
+    (λ ne. put-other (put f x v) x w i ne ∙ put-other f x v i ne ∙ sym (put-other f x w i ne)))
+
+pub put-comm : {A : Type 0} (f : ℕ → A) (x y : ℕ) (v w : A) → x ≢ y → put (put f x v) y w ≡ put (put f y w) x v
+put-comm f x y v w ne =
+    fun-ext
+    (λ i.
+    by-eq i x
+    (λ e.
+    subst (λ (j : ℕ). put (put f x v) y w j ≡ put (put f y w) x v j) (sym e)
+    (put-other (put f x v) y w x ne ∙ put-same f x v ∙ sym (put-same (put f y w) x v)))
+    (λ nx.
+    by-eq i y
+    (λ e.
+    subst (λ (j : ℕ). put (put f x v) y w j ≡ put (put f y w) x v j) (sym e)
+    (put-same (put f x v) y w ∙ sym (put-same f y w) ∙ sym (put-other (put f y w) x v y (λ q. ne (sym q)))))
+    (λ ny.
+    put-other (put f x v) y w i ny ∙ put-other f x v i nx ∙ sym (put-other f y w i ny) ∙ sym (put-other (put f y w) x v i nx))))
+
+pub put-map : {A B : Type 0} (g : A → B) (f : ℕ → A) (x : ℕ) (v : A) → (λ i. g (put f x v i)) ≡ put (λ i. g (f i)) x (g v)
+put-map {B = B} g f x v =
+    fun-ext
+    (λ i.
+    by-eq i x
+    (λ e.
+    subst (λ (j : ℕ). g (put f x v j) ≡ put (λ i. g (f i)) x (g v) j) (sym e)
+    (ap g (put-same f x v) ∙ sym (put-same {A = B} (λ i. g (f i)) x (g v))))
+    (λ ne. ap g (put-other f x v i ne) ∙ sym (put-other {A = B} (λ i. g (f i)) x (g v) i ne)))
 
 module _ (s : Set) where
   pub with-self : (e : ℕ) → Is ((s with e) e)

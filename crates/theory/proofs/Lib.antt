@@ -3,3 +3,4 @@ pub mod Joined
 pub mod Rank
 pub mod Legal
 pub mod Closed
+pub mod Exchange

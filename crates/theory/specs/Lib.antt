@@ -2,3 +2,4 @@ pub mod Numbers
 pub mod Joined
 pub mod Rank
 pub mod Closed
+pub mod Exchange

@@ -4,10 +4,10 @@ use mathlib.Core.Path.{_≡_, ap}
 use mathlib.Core.Bool.{cond}
 use Prim.Native.Nat.{ℕ, _≤_}
 use native.Mathlib.Omega.{arith}
-use Rattle.rule.specs.Sets.{Is, _and_, _≤?_, Set, In}
+use Rattle.rule.specs.Sets.{Is, _and_, _=?_, _≤?_, put}
 use Rattle.rule.specs.Legal.{Design, k}
 use Rattle.rule.specs.Forests.{inForest, keptIn, limit}
-use Rattle.rule.proofs.Tests.{cases, is-false, and-make, and-l, and-r, eq-of, eq-is, lt-of, lt-is, le-of, le-is}
+use Rattle.rule.proofs.Tests.{cases, is-false, and-make, and-l, and-r, eq-of, eq-is, lt-of, lt-is, le-of, le-is, put-map}
 
 pub forest-make : (forest : ℕ → ℕ) (i e : ℕ) → forest e ≡ i → Is (inForest forest i e)
 unfolding inForest
@@ -16,6 +16,11 @@ forest-make forest i e q = eq-is _ _ q
 pub forest-is : (forest : ℕ → ℕ) (i e : ℕ) → Is (inForest forest i e) → forest e ≡ i
 unfolding inForest
 forest-is forest i e h = eq-of _ _ h
+
+-- one edge reassigned
+pub forest-put : (forest : ℕ → ℕ) (e i j : ℕ) → inForest (put forest e i) j ≡ put (inForest forest j) e (i =? j)
+unfolding inForest
+forest-put forest e i j = put-map (λ z. z =? j) forest e i
 
 module _ (d : Design) where
   pub kept-make : (forest : ℕ → ℕ) (e : ℕ) → e ≤ d .m → 1 ≤ forest e → Is (keptIn d forest e)
