@@ -15,7 +15,7 @@ use lib.Dec.{eqb}
 use Rattle.rule.specs.declared.Book.{Book}
 use Rattle.rule.specs.declared.Reason.{Reason}
 use Rattle.rule.specs.declared.Reason.the-variants.{Profile, Bodies, Body, SameBody, Colour, Full, Short, Unsound, Line}
-use Rattle.rule.specs.Sets.{Is, Set, In, below}
+use Rattle.rule.specs.Sets.{Is, Set, In, below, at}
 use Rattle.rule.specs.Legal.{Design, Keeps, Circuit, Grown, Legal}
 use Rattle.rule.specs.Figures.{Leads, Groups}
 use Rattle.rule.specs.Books.{Obeys, Sound, FirstBad}
@@ -33,9 +33,10 @@ pub lead-determined : {d : Design} {kept : Set} {u x y : ℕ} → Leads d kept u
 lead-determined {x = x} {y} p q = le-antisymm (p .smallest y (q .body) (q .in-group)) (q .smallest x (p .body) (p .in-group))
 
 pub groups-determined : {d : Design} {kept : Set} {l₁ l₂ : List ℕ} → Groups d kept l₁ → Groups d kept l₂ → l₁ ≡ l₂
-groups-determined {l₁ = l₁} {l₂} p q =
+unfolding at
+groups-determined {d} {l₁ = l₁} {l₂} p q =
     ext-getD 0 l₁ l₂ (p .as-long ∙ sym (q .as-long))
-    (λ i h. let b = subst (λ (z : ℕ). i < z) (p .as-long) h in lead-determined (p .leads i b) (q .leads i b))
+    (λ i h. let b : In (d .n) (suc i) = omega (arith, p .as-long) in lead-determined (p .leads (suc i) b) (q .leads (suc i) b))
 
 -- ---- the kept set of a grown design
 

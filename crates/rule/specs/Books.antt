@@ -1,21 +1,14 @@
 -- A book as a design, and when it is sound.
 --
--- In order: edge e of an array; the design, the forests and the kept edges of a book; the ranges of document 01, "Sizes"; the
+-- In order: the design, the forests and the kept edges of a book; the ranges of document 01, "Sizes"; the
 -- rule of each place (0 the head, e edge e); sound, and the first place that breaks a rule; a design with one edge more.
 use mathlib.Core.Path.{_≡_}
 use mathlib.Core.Logic.{_⊎_, _≢_}
-use mathlib.Core.List.{List}
 use Prim.Native.Nat.{ℕ, zero, suc, _≤_, _<_}
-use lib.ListN.{getD, set}
 use Rattle.rule.specs.declared.Book.{Book}
-use Rattle.rule.specs.Sets.{_=?_, Set, In, put, below}
+use Rattle.rule.specs.Sets.{_=?_, Set, In, put, below, at}
 use Rattle.rule.specs.Legal.{Design}
 use Rattle.rule.specs.Forests.{Chain, inForest, keptIn, Permitted}
-
--- what an array holds of edge e: edges count from 1, places of an array from 0
-unfoldable pub at : List ℕ → ℕ → ℕ
-at list zero = 0
-at list (suc i) = getD list i 0
 
 unfoldable pub designOf : Book → Design
 designOf B =

@@ -2,11 +2,11 @@
 use mathlib.Core.Path.{_≡_}
 use mathlib.Core.Logic.{_⊎_, _≢_}
 use mathlib.Core.List.{List}
-use Prim.Native.Nat.{ℕ, zero, suc, _*_, _-_, _≤_, _<_}
-use lib.ListN.{length, getD}
+use Prim.Native.Nat.{ℕ, zero, suc, _*_, _-_, _≤_}
+use lib.ListN.{length}
 use Rattle.rule.specs.declared.Verdict.{Verdict}
 use Rattle.rule.specs.declared.Verdict.the-variants.{Tight, Loose, OverTight, OverLoose}
-use Rattle.rule.specs.Sets.{Is, isnt, Set, In, count}
+use Rattle.rule.specs.Sets.{Is, isnt, Set, In, count, at}
 use Rattle.rule.specs.Legal.{Design, k, inside}
 
 -- k·(n−1) less the number kept
@@ -47,4 +47,4 @@ pub record Leads (d : Design) (kept : Set) (u lead : ℕ) : Type 0 where
 -- the group list: for each body in order, the smallest body number of its group
 pub record Groups (d : Design) (kept : Set) (list : List ℕ) : Type 0 where
   pub as-long : length list ≡ d .n
-  pub leads : (i : ℕ) → i < d .n → Leads d kept (suc i) (getD list i 0)
+  pub leads : (u : ℕ) → In (d .n) u → Leads d kept u (at list u)

@@ -17,6 +17,11 @@ pub record Design : Type 0 where
   pub other : ℕ → ℕ
   pub red : Set
 
+-- the ends of each edge are bodies of the design
+pub record Ends (d : Design) : Type 0 where
+  pub one : (e : ℕ) → In (d .m) e → In (d .n) (d .one e)
+  pub other : (e : ℕ) → In (d .m) e → In (d .n) (d .other e)
+
 -- k = a + b
 abbrev pub k : Design → ℕ
 k d = d .a + d .b

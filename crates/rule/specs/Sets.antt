@@ -8,6 +8,7 @@ use mathlib.Core.Logic.{_↔_}
 use mathlib.Core.Bool.{Bool, true, false, cond, not, _&&_, _||_}
 use mathlib.Core.List.{List, [], _∷_, _++_}
 use Prim.Native.Nat.{ℕ, zero, suc, _+_, _≤_}
+use lib.ListN.{getD}
 use lib.Dec.{eqb, ltb, leb}
 
 -- ---- tests
@@ -78,6 +79,11 @@ count s zero = 0
 count s (suc m) = count s m + one-if (s (suc m))
 
 -- ---- lists
+
+-- what a list holds of number i: edges and bodies count from 1, places of a list from 0
+unfoldable pub at : List ℕ → ℕ → ℕ
+at list zero = 0
+at list (suc i) = getD list i 0
 
 -- x alone where the test holds, and nothing where not
 abbrev pub only-if : Bool → ℕ → List ℕ

@@ -4,3 +4,4 @@ pub mod Rank
 pub mod Legal
 pub mod Closed
 pub mod Exchange
+pub mod Search

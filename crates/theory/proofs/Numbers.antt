@@ -1,2 +1,3 @@
 pub mod Smallest
 pub mod Sums
+pub mod Listing

@@ -3,3 +3,4 @@ pub mod Joined
 pub mod Rank
 pub mod Closed
 pub mod Exchange
+pub mod Search

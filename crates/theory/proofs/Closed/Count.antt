@@ -8,7 +8,7 @@ use Prim.Native.Nat.{ℕ, zero, suc, _+_, _*_, _≤_, _<_}
 use native.Mathlib.Nat.{add-zero, add-suc, zero-mul, mul-zero, suc-mul}
 use native.Mathlib.Omega.{arith}
 use Rattle.rule.specs.Sets.{Is, _and_, _=?_, Set, In, _with_, count}
-use Rattle.rule.specs.Legal.{Design, k, Legal}
+use Rattle.rule.specs.Legal.{Design, Ends, k, Legal}
 use Rattle.rule.specs.Forests.{inForest, keptIn, limit, Permitted, Arranged}
 use Rattle.rule.proofs.Tests.{cases, and-make, and-l, and-r, with-self, with-old, with-elim}
 use Rattle.rule.proofs.Counting.{Within, count-with}
@@ -19,7 +19,7 @@ use Rattle.theory.specs.Closed.{standing, covers, Closed}
 use Rattle.theory.proofs.Numbers.Sums.{sum-eq, sum-add, sum-const, fibre}
 use Rattle.theory.proofs.Joined.Laws.{joined-same, spans-edge}
 use Rattle.theory.proofs.Joined.Acyclic.{Acyclic, loopless-acyclic, acyclic-sub}
-use Rattle.theory.proofs.Rank.Laws.{Ends, rank-same, rank-acyclic}
+use Rattle.theory.proofs.Rank.Laws.{rank-same, rank-acyclic}
 use Rattle.theory.proofs.Legal.Kept.{forest-is, kept-has, limit-red, limit-black, limit-most, limit-least}
 use Rattle.theory.proofs.Legal.Count.{black-in, black-not, black-make, legal-count}
 use Rattle.theory.proofs.Closed.Laws.{standing-make, standing-in, standing-forest, covers-at, covers-mono}

@@ -6,13 +6,12 @@ use mathlib.Core.Path.{_≡_, refl, sym, ap, _∙_}
 use Prim.Native.Nat.{ℕ, _+_, _*_, _≤_}
 use native.Mathlib.Omega.{arith}
 use Rattle.rule.specs.Sets.{Is, _and_, _or_, isnt, Set, In, count}
-use Rattle.rule.specs.Legal.{Design, Legal, first-part, second-part}
+use Rattle.rule.specs.Legal.{Design, Ends, Legal, first-part, second-part}
 use Rattle.rule.proofs.Tests.{and-make, and-l, and-r, or-l, isnt-make, isnt-not}
 use Rattle.rule.proofs.Counting.{Within}
 use Rattle.rule.proofs.Legality.{legal-sub, parts-count}
 use Rattle.theory.specs.Rank.{rank, black}
 use Rattle.theory.proofs.Joined.Laws.{spans-edge}
-use Rattle.theory.proofs.Rank.Laws.{Ends}
 use Rattle.theory.proofs.Rank.Sparse.{sparse-rank}
 
 module _ (d : Design) where

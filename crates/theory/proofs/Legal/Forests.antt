@@ -8,7 +8,7 @@ use native.Mathlib.Nat.{add-mul, one-mul, zero-mul}
 use native.Mathlib.Numerals.{add-one}
 use native.Mathlib.Omega.{arith}
 use Rattle.rule.specs.Sets.{Is, _and_, _or_, isnt, _=?_, _<?_, _≤?_, Set, In, _with_, _without_, below, count}
-use Rattle.rule.specs.Legal.{Design, k, inside, Sparse, Legal, first-part, second-part}
+use Rattle.rule.specs.Legal.{Design, Ends, k, inside, Sparse, Legal, first-part, second-part}
 use Rattle.rule.specs.Forests.{inForest, keptIn, Permitted, Arranged}
 use Rattle.rule.proofs.Tests.{cases, is-false, and-make, and-l, and-r, or-l, or-r, or-elim, isnt-not, eq-of, eq-is, lt-of, lt-is, le-of, le-is, not-le, by-eq, by-le, without-make}
 use Rattle.rule.proofs.Counting.{Within, count-mono, count-none, count-or, count-without}
@@ -22,7 +22,7 @@ use Rattle.theory.proofs.Numbers.Smallest.{Smallest, smallest-is, count
 use Rattle.theory.proofs.Joined.Laws.{joined-both}
 use Rattle.theory.proofs.Joined.Acyclic.{Acyclic, loopless-acyclic, acyclic-loopless, acyclic-sub}
 use Rattle.theory.proofs.Rank.Leaders.{leader-near, leader-in}
-use Rattle.theory.proofs.Rank.Laws.{Ends, joined-equivalence, rank-acyclic}
+use Rattle.theory.proofs.Rank.Laws.{joined-equivalence, rank-acyclic}
 
 module _ (d : Design) (ends : Ends d) where
   -- ---- one forest

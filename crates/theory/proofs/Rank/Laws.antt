@@ -7,7 +7,7 @@ use mathlib.Core.Bool.{Bool, true}
 use Prim.Native.Nat.{ℕ, zero, suc, _+_, _≤_, _<_}
 use native.Mathlib.Omega.{arith}
 use Rattle.rule.specs.Sets.{Is, _<?_, Set, In, put, _with_, _without_, count}
-use Rattle.rule.specs.Legal.{Design}
+use Rattle.rule.specs.Legal.{Design, Ends}
 use Rattle.rule.proofs.Tests.{lt-of, with-self, with-old, without-old}
 use Rattle.rule.proofs.Counting.{Within, Agree, count-none, count-pos, count-without, put-back}
 use Rattle.theory.specs.Joined.{joined, spans}
@@ -16,11 +16,6 @@ use Rattle.theory.proofs.Numbers.Smallest.{count-some}
 use Rattle.theory.proofs.Joined.Laws.{joined-refl, joined-sym, joined-trans, joined-least, joined-within, joined-mono, joined-split, joined-agree, spans-edge}
 use Rattle.theory.proofs.Joined.Acyclic.{Acyclic, acyclic-sub}
 use Rattle.theory.proofs.Rank.Leaders.{Equivalence, leader-near, rank-mono, Linked, rank-linked}
-
--- the ends of each edge are bodies of the design
-pub record Ends (d : Design) : Type 0 where
-  pub one : (e : ℕ) → In (d .m) e → In (d .n) (d .one e)
-  pub other : (e : ℕ) → In (d .m) e → In (d .n) (d .other e)
 
 module _ (d : Design) where
   pub joined-equivalence : (s : Set) → Equivalence (joined d s)

@@ -9,7 +9,7 @@ use mathlib.Core.Bool.{Bool, true, false, false≢true}
 use Prim.Native.Nat.{ℕ, zero, suc, _+_, _*_, _-_, _≤_, _<_}
 use native.Mathlib.Omega.{arith}
 use Rattle.rule.specs.Sets.{Is, _and_, isnt, _=?_, _<?_, Set, In, one-if, count}
-use Rattle.rule.specs.Legal.{Design, inside, Sparse}
+use Rattle.rule.specs.Legal.{Design, Ends, inside, Sparse}
 use Rattle.rule.proofs.Tests.{cases, same-test, is-false, and-make, and-l, and-r, eq-of, eq-is, lt-of, lt-is, by-le, by-eq}
 use Rattle.rule.proofs.Counting.{count-eq, count-none, count-all, count-pos, count-sums}
 use Rattle.rule.proofs.Legality.{inside-make, inside-in, inside-one, inside-other}
@@ -19,7 +19,7 @@ use Rattle.theory.specs.Rank.{leader, rankOf, rank}
 use Rattle.theory.proofs.Numbers.Smallest.{count-some}
 use Rattle.theory.proofs.Numbers.Sums.{sum-eq, sum-mono, sum-add, sum-mul, sum-count, fibre}
 use Rattle.theory.proofs.Rank.Leaders.{Equivalence, leader-in, leader-high, leader-near, leader-same, leader-leads}
-use Rattle.theory.proofs.Rank.Laws.{Ends, joined-equivalence}
+use Rattle.theory.proofs.Rank.Laws.{joined-equivalence}
 
 -- ---- the classes of an equivalence
 
