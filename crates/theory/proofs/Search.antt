@@ -1,1 +1,5 @@
 pub mod Reached
+pub mod Stages
+pub mod Trail
+pub mod Image
+pub mod Outcome

@@ -11,7 +11,7 @@ use native.Mathlib.Omega.{arith}
 use Rattle.rule.specs.Sets.{Is, _and_, isnt, _=?_, Set, In, put, _with_, _without_}
 use Rattle.rule.specs.Legal.{Design, k}
 use Rattle.rule.specs.Forests.{limit, inForest, Permitted, Arranged}
-use Rattle.rule.proofs.Tests.{cases, same-test, is-false, and-make, and-l, and-r, isnt-make, isnt-not, eq-of, eq-self, by-eq, put-same, put-other, put-id, put-comm, without-old, without-ne, without-make}
+use Rattle.rule.proofs.Tests.{cases, same-test, is-false, and-make, and-l, and-r, isnt-make, isnt-not, eq-of, eq-self, by-eq, by-le, put-same, put-other, put-id, put-comm, without-old, without-ne, without-make}
 use Rattle.theory.specs.Joined.{joined, spans, onPath}
 use Rattle.theory.specs.Exchange.{Arc, exchanged}
 use Rattle.theory.proofs.Joined.Laws.{spans-mono, swap-same}
@@ -31,6 +31,15 @@ module _ (d : Design) (s : Set) (x y : ℕ) where
   pub path-needs : Is (onPath d s x y) → ¬ (Is (spans d (s without y) x))
   unfolding onPath
   path-needs h = isnt-not _ (and-r (spans d s x) _ (and-r (s y) _ h))
+
+  -- a number that is no edge joins nothing
+  pub path-edge : Is (onPath d s x y) → In (d .m) y
+  path-edge h =
+      by-le 1 y (λ low. by-le y (d .m) (λ high. omega arith) (λ past. absurd (idle (λ e k q. omega (arith, k .high)))))
+      (λ none. absurd (idle (λ e k q. omega (arith, k .low))))
+    where
+      idle : ¬ ((e : ℕ) → In (d .m) e → e ≢ y)
+      idle f = path-needs h (spans-mono d s (s without y) (λ e k t. without-make s y e t (f e k)) x (path-spans h))
 
   pub path-make : Is (s y) → Is (spans d s x) → ¬ (Is (spans d (s without y) x)) → Is (onPath d s x y)
   unfolding onPath
