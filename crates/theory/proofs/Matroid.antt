@@ -1,0 +1,3 @@
+pub mod Arrange
+pub mod Formula
+pub mod Augment
