@@ -6,3 +6,4 @@ pub mod Closed
 pub mod Exchange
 pub mod Search
 pub mod Matroid
+pub mod Laws

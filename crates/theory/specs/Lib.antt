@@ -4,3 +4,4 @@ pub mod Rank
 pub mod Closed
 pub mod Exchange
 pub mod Search
+pub mod Order

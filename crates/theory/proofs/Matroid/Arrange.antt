@@ -100,6 +100,9 @@ module _ (d : Design) (ends : Ends d) where
         keeps = λ e h. same-test _ _ (λ t. absurd (omega (arith, kept-has d (λ _. 0) e t))) (λ t. absurd (empty e h t));
       }
 
+  pub legal-none : (s : Set) → ((e : ℕ) → In (d .m) e → ¬ (Is (s e))) → Legal d s
+  legal-none s empty = arrangement-legal s (nothing s empty)
+
   -- the edges up to j + 1: those up to j, and j + 1 where it is in s
   up-to-with : (s : Set) (j : ℕ) → Is (s (suc j)) → Agree (d .m) (below s (suc j) with suc j) (below s (suc (suc j)))
   up-to-with s j t e h =

@@ -1,0 +1,6 @@
+pub mod Transport
+pub mod Plus
+pub mod Grown
+pub mod Order
+pub mod Undo
+pub mod Circuits
