@@ -1,14 +1,14 @@
 -- A subset of a legal set is legal; a legal set has at most k·(n−1) edges; so freedom and the kept count add up to k·(n−1).
 --
 -- The first: each part of the subset lies in the same part of the set, and a set inside a sparse one is sparse.
--- The second: the set of all bodies holds every edge, at most a·(n−1) of the one part and b·(n−1) of the other.
+-- The second: every set of bodies holds at most a·(m−1) edges of the one part and b·(m−1) of the other; all bodies hold every edge.
 -- Assumes nothing.
 use mathlib.Core.Path.{_≡_, refl, sym, ap, _∙_, subst}
 use mathlib.Core.Bool.{true}
 use Prim.Native.Nat.{ℕ, suc, _+_, _*_, _-_, _≤_}
 use native.Mathlib.Nat.{add-mul}
 use native.Mathlib.Omega.{arith}
-use Rattle.rule.specs.Sets.{Is, _and_, _or_, Set, In, _with_, count}
+use Rattle.rule.specs.Sets.{Is, _and_, _or_, isnt, Set, In, _with_, count}
 use Rattle.rule.specs.Legal.{Design, k, inside, Sparse, first-part, second-part, Legal}
 use Rattle.rule.specs.Figures.{freedom}
 use Rattle.rule.proofs.Tests.{and-make, and-l, and-r}
@@ -39,15 +39,6 @@ module _ (d : Design) where
   sparse-sub c s t f sp w nonempty =
       omega (arith, count-mono (inside d s w) (inside d t w) (d .m) (inside-mono s t w f), sp w nonempty)
 
-  -- all bodies hold every edge
-  pub sparse-count : (c : ℕ) (s : Set) → 1 ≤ d .n → Sparse d c s → count s (d .m) ≤ c * (d .n - 1)
-  unfolding Sparse
-  sparse-count c s h sp =
-      let all : count (λ _. true) (d .n) ≡ d .n = count-all (λ _. true) (d .n) (λ i _. refl) in
-      let bound : count (inside d s (λ _. true)) (d .m) ≤ c * (d .n - 1) =
-      subst (λ (z : ℕ). count (inside d s (λ _. true)) (d .m) ≤ c * (z - 1)) all (sp (λ _. true) (omega arith)) in
-      omega (arith, count-mono s (inside d s (λ _. true)) (d .m) (λ i _ e. inside-make s (λ _. true) i e refl refl))
-
 module _ (d : Design) (s t first : Set) (f : Within (d .m) s t) where
   first-mono : Within (d .m) (first-part d s first) (first-part d t first)
   unfolding first-part
@@ -71,15 +62,35 @@ pub parts-count : (d : Design) (s first : Set) → count (first-part d s first) 
 unfolding first-part second-part
 parts-count d s first = count-split s (λ e. d .red e or first e) (d .m)
 
--- a legal set has at most k·(n−1) edges
-pub legal-size : (d : Design) (s : Set) → 1 ≤ d .n → Legal d s → count s (d .m) ≤ k d * (d .n - 1)
-legal-size d s h legal =
+-- every nonempty set of m bodies holds at most k·(m−1) edges of a legal set
+pub legal-inside : (d : Design) (s w : Set) → Legal d s → 1 ≤ count w (d .n) → count (inside d s w) (d .m) ≤ k d * (count w (d .n) - 1)
+unfolding Sparse first-part second-part
+legal-inside d s w legal l =
+    let chosen : Set = λ e. d .red e or legal .first e in
+    let part : (p : Set) → Within (d .m) (λ e. inside d s w e and p e) (inside d (λ e. s e and p e) w) =
+    λ p e h i.
+    let o = and-l _ _ i in
+    inside-make d (λ e. s e and p e) w e (and-make _ _ (inside-in d s w e o) (and-r (inside d s w e) _ i)) (inside-one d s w e o)
+    (inside-other d s w e o) in
     omega (
       arith,
-      parts-count d s (legal .first),
-      sparse-count d (d .a) _ h (legal .reds-with-first),
-      sparse-count d (d .b) _ h (legal .second),
-      add-mul (d .a) (d .b) (d .n - 1),
+      count-split (inside d s w) chosen (d .m),
+      count-mono _ _ (d .m) (part chosen),
+      count-mono _ _ (d .m) (part (λ e. isnt (chosen e))),
+      legal .reds-with-first w l,
+      legal .second w l,
+      add-mul (d .a) (d .b) (count w (d .n) - 1),
+    )
+
+-- a legal set has at most k·(n−1) edges: all bodies hold every edge
+pub legal-size : (d : Design) (s : Set) → 1 ≤ d .n → Legal d s → count s (d .m) ≤ k d * (d .n - 1)
+legal-size d s h legal =
+    let all : Set = λ _. true in
+    let size : count all (d .n) ≡ d .n = count-all all (d .n) (λ i _. refl) in
+    omega (
+      arith,
+      count-mono s (inside d s all) (d .m) (λ i _ e. inside-make d s all i e refl refl),
+      subst (λ (z : ℕ). count (inside d s all) (d .m) ≤ k d * (z - 1)) size (legal-inside d s all legal (omega arith)),
     )
 
 -- freedom and the kept count add up to k·(n−1)

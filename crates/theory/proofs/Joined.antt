@@ -1,3 +1,4 @@
 pub mod Chains
 pub mod Laws
 pub mod Acyclic
+pub mod Longer

@@ -1,3 +1,4 @@
 pub mod Kept
 pub mod Count
 pub mod Forests
+pub mod Sound

@@ -7,3 +7,4 @@ pub mod Exchange
 pub mod Search
 pub mod Matroid
 pub mod Laws
+pub mod Groups

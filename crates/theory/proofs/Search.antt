@@ -3,3 +3,4 @@ pub mod Stages
 pub mod Trail
 pub mod Image
 pub mod Outcome
+pub mod Circuit

@@ -5,3 +5,4 @@ pub mod Closed
 pub mod Exchange
 pub mod Search
 pub mod Order
+pub mod Groups

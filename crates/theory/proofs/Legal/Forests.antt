@@ -15,42 +15,12 @@ use Rattle.rule.proofs.Counting.{Within, count-mono, count-none, count-or, coun
 use Rattle.rule.proofs.Legality.{inside-make, inside-in, inside-one, inside-other, sparse-sub}
 use Rattle.rule.proofs.Loops.{none-closes-loopless}
 use Rattle.theory.proofs.Legal.Kept.{kept-has, limit-red, limit-most}
-use Rattle.theory.specs.Numbers.{smallest}
-use Rattle.theory.specs.Joined.{joined}
-use Rattle.theory.specs.Rank.{leader, rankOf, rank}
-use Rattle.theory.proofs.Numbers.Smallest.{Smallest, smallest-is, count-some}
-use Rattle.theory.proofs.Joined.Laws.{joined-both}
 use Rattle.theory.proofs.Joined.Acyclic.{Acyclic, loopless-acyclic, acyclic-loopless, acyclic-sub}
-use Rattle.theory.proofs.Rank.Leaders.{leader-near, leader-in}
-use Rattle.theory.proofs.Rank.Laws.{joined-equivalence, rank-acyclic}
+use Rattle.theory.proofs.Rank.Laws.{rank-acyclic}
+use Rattle.theory.proofs.Rank.Held.{rank-held}
 
 module _ (d : Design) (ends : Ends d) where
   -- ---- one forest
-
-  -- what edges inside w join lies in w
-  joined-inside : (s w : Set) (x y : ℕ) → Is (joined d (inside d s w) x y) → (x ≡ y) ⊎ (Is (w x) × Is (w y))
-  joined-inside s w = joined-both d (inside d s w) (λ v. Is (w v)) (λ e h i. (inside-one d s w e i, inside-other d s w e i))
-
-  -- the rank of edges inside w is below the size of w
-  rank-inside : (s w : Set) → 1 ≤ count w (d .n) → rank d (inside d s w) ≤ count w (d .n) - 1
-  unfolding rank rankOf
-  rank-inside s w l =
-      let some-body = count-some w (d .n) l in
-      let z = smallest w (d .n) in
-      let least : Smallest w (d .n) z = smallest-is w (d .n) (some-body .0) (some-body .1 .0) (some-body .1 .1) in
-      let near = joined d (inside d s w) in
-      let eqv = joined-equivalence d (inside d s w) in
-      omega (
-        arith,
-        count-mono (λ v. leader near v <? v) (w without z) (d .n)
-            (λ v h i.
-            let lower : leader near v < v = lt-of _ _ i in
-            ⊎-elim (λ q. absurd (omega arith))
-            (λ p.
-            without-make w z v (p .1) (λ q. omega (arith, lower, least .least (leader near v) (leader-in near eqv (d .n) v h) (p .0))))
-            (joined-inside s w (leader near v) v (leader-near near eqv v (h .low)))),
-        count-without w (d .n) z (least .range) (least .is-in),
-      )
 
   pub acyclic-sparse : (s : Set) → Acyclic d s → Sparse d 1 s
   unfolding Sparse
@@ -58,7 +28,7 @@ module _ (d : Design) (ends : Ends d) where
       omega (
         arith,
         rank-acyclic d ends (inside d s w) (acyclic-sub d (inside d s w) s (λ e _ i. inside-in d s w e i) ac),
-        rank-inside s w l,
+        rank-held d (inside d s w) w (λ e _ i. (inside-one d s w e i, inside-other d s w e i)) l,
         one-mul (count w (d .n) - 1),
       )
 
