@@ -8,3 +8,5 @@ pub mod Search
 pub mod Matroid
 pub mod Laws
 pub mod Groups
+pub mod Examples
+pub mod Theorems

@@ -12,6 +12,7 @@ use Rattle.rule.specs.Sets.{_and_, _or_, isnt, _=?_, _<?_, Set, numbers}
 use Rattle.rule.specs.Legal.{Design}
 use Rattle.rule.specs.Forests.{limit, inForest}
 use Rattle.theory.specs.Joined.{spans, onPath}
+use Rattle.theory.specs.Exchange.{shifted}
 
 -- What has been reached: the edges in the order in which they wait, places counted from 0, first the new one; for each of them
 -- the place of the edge that reached it; and the same edges as a set.
@@ -92,3 +93,8 @@ trail w (suc steps) (suc place) l = trail w steps (fromAt w (suc place)) (edgeAt
 -- the path from the new edge to a place, without the new edge
 unfoldable pub pathTo : Waiting → ℕ → List ℕ
 pathTo w place = trail w place place []
+
+-- the forests after the search for e: shifted along the path where it ended, as they were where it did not
+abbrev pub settled : (ℕ → ℕ) → ℕ → Result → ℕ → ℕ
+settled forest e (found place i w) = shifted forest (e ∷ pathTo w place) i
+settled forest e (going w) = forest

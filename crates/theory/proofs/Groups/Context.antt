@@ -33,14 +33,14 @@ use Rattle.theory.proofs.Groups.Longer.{unplacedNew, phi-new, arranged-
 module _ (d : Design) (ends : Ends d) (forest : ℕ → ℕ) (arr : Arranged d forest) where
   pub in-all-mono : (c b : Set) → Within (d .m) c b → (j u v : ℕ) → Is (joinedInAll d forest c j u v) → Is (joinedInAll d forest b j u v)
   in-all-mono c b f j u v h =
-      in-all-make d ends forest arr b j u v
+      in-all-make d forest b j u v
       (λ i r.
       joined-mono d (standing forest c i) (standing forest b i)
       (λ e he t. standing-make forest b i e (f e he (standing-in forest c i e t)) (standing-forest forest c i e t)) u v
-      (in-all-at d ends forest arr c j u v i h r))
+      (in-all-at d forest c j u v i h r))
 
   pub in-all-fewer : (c : Set) (i j u v : ℕ) → i ≤ j → Is (joinedInAll d forest c j u v) → Is (joinedInAll d forest c i u v)
-  in-all-fewer c i j u v l h = in-all-make d ends forest arr c i u v (λ z r. in-all-at d ends forest arr c j u v z h (omega arith))
+  in-all-fewer c i j u v l h = in-all-make d forest c i u v (λ z r. in-all-at d forest c j u v z h (omega arith))
 
   module _ (u v colour : ℕ) (hu : In (d .n) u) (hv : In (d .n) v) where
     abbrev wide : Design
@@ -75,7 +75,7 @@ module _ (d : Design) (ends : Ends d) (forest : ℕ → ℕ) (arr : Arranged d f
         new
         (λ t. omega (arith, core-only (suc (d .m)) t))
         (covers-make wide phi (limit wide) (core d forest) (suc (d .m))
-        (λ i r. spans-last d u v colour forest (core d forest) core-only i ∙ in-all-at d ends forest arr (core d forest) (limit wide (suc (d .m))) u v i h r))
+        (λ i r. spans-last d u v colour forest (core d forest) core-only i ∙ in-all-at d forest (core d forest) (limit wide (suc (d .m))) u v i h r))
         legal
         (with-mono (suc (d .m)) (core d forest) (keptIn d forest) (suc (d .m)) (λ e _ t. greatest-kept d forest (limit d) e t))
 
@@ -95,7 +95,7 @@ module _ (d : Design) (ends : Ends d) (forest : ℕ → ℕ) (arr : Arranged d f
             absurd (not (subst (λ (s : Set). Legal wide (s with suc (d .m))) kept-same (found-kept wide wide-ends phi wide-arr (suc (d .m)) new none p i w q)))
         go (going w) q =
             in-all-mono seen (core d forest) (greatest-holds d forest (limit d) seen (λ e h t. kept e h t) closed) (limit wide (suc (d .m))) u v
-            (in-all-make d ends forest arr seen (limit wide (suc (d .m))) u v
+            (in-all-make d forest seen (limit wide (suc (d .m))) u v
             (λ i r.
             sym (spans-last d u v colour forest seen only i)
             ∙ covers-at wide phi (limit wide) seen (suc (d .m)) i (covers-agree (suc (d .m)) (stuck-covered wide wide-ends phi wide-arr (suc (d .m)) new none w q)) r))

@@ -40,9 +40,9 @@ sum-of-most f c (suc n) most total i h =
     (λ k. sum-of-most f c n (λ j r. most j (in-one n j r)) (omega (arith, most (suc n) (omega arith), suc-mul n c)) i k)
     (λ q. subst (λ (z : ℕ). c ≤ f z) (sym q) (omega (arith, suc-mul n c)))
 
-module _ (d : Design) (ends : Ends d) (forest : ℕ → ℕ) (arr : Arranged d forest) where
-  -- ---- joined in all of the forests
+-- ---- joined in all of the forests
 
+module _ (d : Design) (forest : ℕ → ℕ) where
   pub in-all-at : (c : Set) (j u v i : ℕ) → Is (joinedInAll d forest c j u v) → In j i → Is (joined d (standing forest c i) u v)
   unfolding joinedInAll
   in-all-at c j u v i h r = every-at _ j i r h
@@ -51,6 +51,20 @@ module _ (d : Design) (ends : Ends d) (forest : ℕ → ℕ) (arr : Arranged d f
   unfolding joinedInAll
   in-all-make c j u v f = every-make _ j f
 
+  -- it is an equivalence, whatever the set
+  pub in-all-refl : (c : Set) (j u : ℕ) → Is (joinedInAll d forest c j u u)
+  in-all-refl c j u = in-all-make c j u u (λ i r. joined-refl d (standing forest c i) u)
+
+  pub in-all-sym : (c : Set) (j u v : ℕ) → Is (joinedInAll d forest c j u v) → Is (joinedInAll d forest c j v u)
+  in-all-sym c j u v h = in-all-make c j v u (λ i r. joined-sym d (standing forest c i) u v (in-all-at c j u v i h r))
+
+  pub in-all-trans : (c : Set) (j u v w : ℕ) → Is (joinedInAll d forest c j u v) → Is (joinedInAll d forest c j v w) → Is (joinedInAll d forest c j u w)
+  in-all-trans c j u v w h g =
+      in-all-make c j u w (λ i r. joined-trans d (standing forest c i) u v w (in-all-at c j u v i h r) (in-all-at c j v w i g r))
+
+-- ---- rigid groups
+
+module _ (d : Design) (ends : Ends d) (forest : ℕ → ℕ) (arr : Arranged d forest) where
   -- ---- a set of bodies that holds as many kept edges as it can
 
   module _ (w : Set) (some-body : 1 ≤ count w (d .n)) (exact : count (inside d (keptIn d forest) w) (d .m) ≡ k d * (count w (d .n) - 1)) where
@@ -86,7 +100,7 @@ module _ (d : Design) (ends : Ends d) (forest : ℕ → ℕ) (arr : Arranged d f
   share-joined u v hu hv s =
       let w = s .bodies in
       let some-body = count-pos w (d .n) u hu (s .holds-one) in
-      in-all-make (rigidCore d forest) (k d) u v
+      in-all-make d forest (rigidCore d forest) (k d) u v
       (λ i r.
       joined-mono d (standing forest (inside d (keptIn d forest) w) i) (standing forest (rigidCore d forest) i)
       (λ e h t.
@@ -175,7 +189,7 @@ module _ (d : Design) (ends : Ends d) (forest : ℕ → ℕ) (arr : Arranged d f
         holds-one = joined-refl d (rigidCore d forest) u;
         holds-other =
             joined-mono d (standing forest (rigidCore d forest) 1) (rigidCore d forest) (λ e _ t. standing-in forest (rigidCore d forest) 1 e t) u v
-            (in-all-at (rigidCore d forest) (k d) u v 1 h (omega arith));
+            (in-all-at d forest (rigidCore d forest) (k d) u v 1 h (omega arith));
         exact = near-exact u hu;
       }
 
@@ -185,18 +199,7 @@ module _ (d : Design) (ends : Ends d) (forest : ℕ → ℕ) (arr : Arranged d f
       → (InGroup d (keptIn d forest) u v ↔ Is (joinedInAll d forest (rigidCore d forest) (k d) u v))
   group-iff u v hu hv l = (
     ⊎-elim
-        (λ q. in-all-make (rigidCore d forest) (k d) u v (λ i r. subst (λ (z : ℕ). Is (joined d (standing forest (rigidCore d forest) i) u z)) (sym q) (joined-refl d (standing forest (rigidCore d forest) i) u)))
+        (λ q. in-all-make d forest (rigidCore d forest) (k d) u v (λ i r. subst (λ (z : ℕ). Is (joined d (standing forest (rigidCore d forest) i) u z)) (sym q) (joined-refl d (standing forest (rigidCore d forest) i) u)))
         (λ s. share-joined u v hu hv s),
     (λ h. inr (joined-share u v hu l h)),
   )
-
-  -- joined in all forests is an equivalence, whatever the set
-  pub in-all-refl : (c : Set) (j u : ℕ) → Is (joinedInAll d forest c j u u)
-  in-all-refl c j u = in-all-make c j u u (λ i r. joined-refl d (standing forest c i) u)
-
-  pub in-all-sym : (c : Set) (j u v : ℕ) → Is (joinedInAll d forest c j u v) → Is (joinedInAll d forest c j v u)
-  in-all-sym c j u v h = in-all-make c j v u (λ i r. joined-sym d (standing forest c i) u v (in-all-at c j u v i h r))
-
-  pub in-all-trans : (c : Set) (j u v w : ℕ) → Is (joinedInAll d forest c j u v) → Is (joinedInAll d forest c j v w) → Is (joinedInAll d forest c j u w)
-  in-all-trans c j u v w h g =
-      in-all-make c j u w (λ i r. joined-trans d (standing forest c i) u v w (in-all-at c j u v i h r) (in-all-at c j v w i g r))
