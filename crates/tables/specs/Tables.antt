@@ -47,11 +47,11 @@ pub record Slots (d : Design) (forest : ℕ → ℕ) (f : ℕ) (edge size : List
   pub slot-of : (e : ℕ) → In (d .m) e → forest e ≡ f → (j : ℕ) × ((j < filled size f) × (slot edge f j ≡ e))
   pub once : (i j : ℕ) → i < filled size f → j < filled size f → slot edge f i ≡ slot edge f j → i ≡ j
 
--- two bodies have one label exactly when forest f joins them, and the word at a label has the bodies with that label
-pub record Labels (d : Design) (forest : ℕ → ℕ) (f : ℕ) (root who : List ℕ) : Type 0 where
+-- two bodies have one label exactly when the edges of s join them, and the word at a label has the bodies with that label
+pub record Labels (d : Design) (s : Set) (f : ℕ) (root who : List ℕ) : Type 0 where
   pub small : (v : ℕ) → In 64 v → label root f v < 64
-  pub same : (u v : ℕ) → In 64 u → In 64 v → (label root f u =? label root f v) ≡ joined d (inForest forest f) u v
-  pub bodies : (u v : ℕ) → In 64 u → In 64 v → bit (crowd who f (label root f u)) (v - 1) ≡ joined d (inForest forest f) u v
+  pub same : (u v : ℕ) → In 64 u → In 64 v → (label root f u =? label root f v) ≡ joined d s u v
+  pub bodies : (u v : ℕ) → In 64 u → In 64 v → bit (crowd who f (label root f u)) (v - 1) ≡ joined d s u v
 
 -- two bodies that forest f joins have the same bit of a slot exactly when it joins them without the edge in that slot, and the same
 -- bits of the slots that are not filled
@@ -63,5 +63,5 @@ pub record Ways (d : Design) (forest : ℕ → ℕ) (f : ℕ) (way edge size : L
 -- the tables hold the forests 1 to 6 of the design
 pub record Tabled (d : Design) (forest : ℕ → ℕ) (root way who edge size : List ℕ) : Type 0 where
   pub slots : (f : ℕ) → In 6 f → Slots d forest f edge size
-  pub labels : (f : ℕ) → In 6 f → Labels d forest f root who
+  pub labels : (f : ℕ) → In 6 f → Labels d (inForest forest f) f root who
   pub ways : (f : ℕ) → In 6 f → Ways d forest f way edge size
