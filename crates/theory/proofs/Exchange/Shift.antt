@@ -37,7 +37,7 @@ shifted-put forest z v (y ∷ l) f h =
     ap₂ (λ (g : ℕ → ℕ) (w : ℕ). put g y w) (shifted-put forest z v l f (h .1)) (freed-put forest z v l f (h .1))
     ∙ put-comm (shifted forest l f) z y v (freed forest l f) (λ q. h .0 (sym q))
 
-shift-is-walk : (forest : ℕ → ℕ) (x : ℕ) (rest : List ℕ) (f : ℕ) → Distinct x rest
+pub shift-is-walk : (forest : ℕ → ℕ) (x : ℕ) (rest : List ℕ) (f : ℕ) → Distinct x rest
     → shifted forest (x ∷ rest) f ≡ put (walked forest x rest) (end x rest) f
 unfolding shifted walked
 shift-is-walk forest x [] f h = refl

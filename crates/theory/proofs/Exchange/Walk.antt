@@ -16,7 +16,7 @@ use Rattle.rule.specs.Legal.{Design}
 use Rattle.rule.specs.Forests.{inForest, Arranged}
 use Rattle.rule.proofs.Tests.{put-same}
 use Rattle.theory.specs.Joined.{joined, spans, onPath}
-use Rattle.theory.specs.Exchange.{Arc, Each, Distinct, Path, end, exchanged, walked}
+use Rattle.theory.specs.Exchange.{Arc, Free, Each, Distinct, Path, end, exchanged, walked}
 use Rattle.theory.proofs.Exchange.Step.{at-other, same-joined, same-without, exchanged-arranged}
 use Rattle.theory.proofs.Legal.Kept.{forest-make}
 
@@ -85,7 +85,8 @@ module _ (d : Design) where
     pub distinct : Distinct x rest
     pub path : Path d forest x rest
 
-  onward : (forest : ℕ → ℕ) (x y : ℕ) (rest : List ℕ) → Start forest x (y ∷ rest) → Start (exchanged forest x y) y rest
+  -- after the first step of a path what is left is a path from its first edge, and who was free at its end is free still
+  pub onward : (forest : ℕ → ℕ) (x y : ℕ) (rest : List ℕ) → Start forest x (y ∷ rest) → Start (exchanged forest x y) y rest
   onward forest x y rest s =
       record {
         unplaced = put-same (put forest x (forest y)) y 0;
@@ -95,11 +96,26 @@ module _ (d : Design) where
         path = path-same d forest x y (s .unplaced) (s .edge) (s .path .0) y rest (each-both (λ z. (z ≢ x) × (z ≢ y)) (λ z. ¬ (Arc d forest x z)) rest (each-both (λ z. z ≢ x) (λ z. z ≢ y) rest (s .distinct .0 .1) (away y rest (s .distinct .1))) (s .path .1 .0)) (s .path .1 .1);
       }
 
+  pub free-onward : (forest : ℕ → ℕ) (x y : ℕ) (rest : List ℕ) → Start forest x (y ∷ rest) → (z f : ℕ) → Free d forest z f
+      → Free d (exchanged forest x y) z f
+  unfolding spans
+  free-onward forest x y rest s z f free =
+      record {
+        allowed = free .allowed;
+        not-joined =
+            λ h.
+            free .not-joined
+            (sym (same-joined d forest x y (s .unplaced) (s .edge) (s .path .0) f (free .allowed .low) (d .one z) (d .other z)) ∙ h);
+      }
+
+  pub arranged-onward : (forest : ℕ → ℕ) (x y : ℕ) (rest : List ℕ) → Start forest x (y ∷ rest) → Arranged d forest → Arranged d (exchanged forest x y)
+  arranged-onward forest x y rest s arr = exchanged-arranged d forest x y (s .unplaced) (s .edge) (s .path .0) arr
+
   pub walk-arranged : (forest : ℕ → ℕ) (x : ℕ) (rest : List ℕ) → Start forest x rest → Arranged d forest → Arranged d (walked forest x rest)
   unfolding walked
   walk-arranged forest x [] s arr = arr
   walk-arranged forest x (y ∷ rest) s arr =
-      walk-arranged (exchanged forest x y) y rest (onward forest x y rest s) (exchanged-arranged d forest x y (s .unplaced) (s .edge) (s .path .0) arr)
+      walk-arranged (exchanged forest x y) y rest (onward forest x y rest s) (arranged-onward forest x y rest s arr)
 
   pub walk-joined : (forest : ℕ → ℕ) (x : ℕ) (rest : List ℕ) → Start forest x rest → (j : ℕ) → 1 ≤ j → (u v : ℕ)
       → joined d (inForest (walked forest x rest) j) u v ≡ joined d (inForest forest j) u v

@@ -6,16 +6,16 @@ use mathlib.Core.Logic.{_≢_}
 use mathlib.Core.Bool.{Bool, cond}
 use Prim.Native.Nat.{ℕ, suc, _≤_, _<_}
 use native.Mathlib.Omega.{arith}
-use Rattle.rule.specs.Sets.{Is, _and_, _≤?_, Set, In, put}
+use Rattle.rule.specs.Sets.{Is, Set, In, put, _without_}
 use Rattle.rule.specs.Legal.{Design, k}
 use Rattle.rule.specs.Forests.{limit, inForest, keptIn, Permitted, Arranged}
 use Rattle.rule.specs.Books.{plus}
-use Rattle.rule.proofs.Tests.{same-test, by-eq, by-le, in-split, put-same, put-other}
+use Rattle.rule.proofs.Tests.{same-test, by-eq, by-le, in-split, put-same, put-other, without-old}
 use Rattle.rule.proofs.Counting.{Within}
 use Rattle.theory.specs.Joined.{joined, spans}
 use Rattle.theory.specs.Closed.{standing, covers}
 use Rattle.theory.proofs.Joined.Laws.{joined-agree, spans-mono}
-use Rattle.theory.proofs.Joined.Acyclic.{Acyclic, loopless-acyclic, acyclic-loopless, acyclic-sub}
+use Rattle.theory.proofs.Joined.Acyclic.{Acyclic, loopless-acyclic, acyclic-loopless, without-mono, acyclic-sub}
 use Rattle.theory.proofs.Joined.Longer.{joined-longer, spans-longer, spans-new, acyclic-longer}
 use Rattle.theory.proofs.Legal.Kept.{forest-make, forest-is, kept-make, kept-has, kept-most}
 use Rattle.theory.proofs.Closed.Laws.{standing-make, standing-in, standing-forest, covers-make, covers-at}
@@ -32,7 +32,7 @@ module _ (d : Design) (u v colour : ℕ) (forest : ℕ → ℕ) where
   abbrev phi : ℕ → ℕ
   phi = unplacedNew d forest
 
-  phi-old : (e : ℕ) → In (d .m) e → phi e ≡ forest e
+  pub phi-old : (e : ℕ) → In (d .m) e → unplacedNew d forest e ≡ forest e
   phi-old e h = put-other forest (suc (d .m)) 0 e (omega arith)
 
   pub phi-new : unplacedNew d forest (suc (d .m)) ≡ 0
@@ -46,6 +46,25 @@ module _ (d : Design) (u v colour : ℕ) (forest : ℕ → ℕ) where
   none-new : (i : ℕ) → 1 ≤ i → ¬ (Is (inForest phi i (suc (d .m))))
   none-new i l t = omega (arith, phi-new, forest-is phi i (suc (d .m)) t)
 
+  same-forest : (i : ℕ) → Within (d .m) (inForest phi i) (inForest forest i)
+  same-forest i e h t = forest-make forest i e (sym (phi-old e h) ∙ forest-is phi i e t)
+
+  forest-same : (i : ℕ) → Within (d .m) (inForest forest i) (inForest phi i)
+  forest-same i e h t = forest-make phi i e (phi-old e h ∙ forest-is forest i e t)
+
+  -- each forest joins what it joined, also without an edge of it
+  pub joined-forest : (i : ℕ) → 1 ≤ i → (x y : ℕ) → joined (plus d u v colour) (inForest (unplacedNew d forest) i) x y ≡ joined d (inForest forest i) x y
+  joined-forest i l x y =
+      joined-longer d u v colour (inForest phi i) (none-new i l) x y
+      ∙ joined-agree d (inForest phi i) (inForest forest i) (same-forest i) (forest-same i) x y
+
+  pub joined-forest-without : (i : ℕ) → 1 ≤ i → (e x y : ℕ)
+      → joined (plus d u v colour) (inForest (unplacedNew d forest) i without e) x y ≡ joined d (inForest forest i without e) x y
+  joined-forest-without i l e x y =
+      joined-longer d u v colour (inForest phi i without e) (λ t. none-new i l (without-old (inForest phi i) e (suc (d .m)) t)) x y
+      ∙ joined-agree d (inForest phi i without e) (inForest forest i without e)
+      (without-mono d (inForest phi i) (inForest forest i) e (same-forest i)) (without-mono d (inForest forest i) (inForest phi i) e (forest-same i)) x y
+
   pub arranged-longer : Arranged d forest → Arranged (plus d u v colour) (unplacedNew d forest)
   unfolding Permitted plus
   arranged-longer arr =
@@ -58,7 +77,7 @@ module _ (d : Design) (u v colour : ℕ) (forest : ℕ → ℕ) where
             λ i h.
             acyclic-loopless wide (inForest phi i)
             (acyclic-longer d u v colour (inForest phi i) (none-new i (h .low))
-            (acyclic-sub d (inForest phi i) (inForest forest i) (λ e r t. forest-make forest i e (sym (phi-old e r) ∙ forest-is phi i e t))
+            (acyclic-sub d (inForest phi i) (inForest forest i) (same-forest i)
             (loopless-acyclic d (inForest forest i) (arr .loopless i h))));
       }
 

@@ -31,7 +31,7 @@ module _ (d : Design) where
   unfolding Loopless Acyclic spans
   acyclic-loopless s l e h i c = l e h i (chain-joined d (s without e) (d .one e) (d .other e) c)
 
-  without-mono : (s t : Set) (e : ℕ) → Within (d .m) s t → Within (d .m) (s without e) (t without e)
+  pub without-mono : (s t : Set) (e : ℕ) → Within (d .m) s t → Within (d .m) (s without e) (t without e)
   without-mono s t e f i h k = without-make t e i (f i h (without-old s e i k)) (without-ne s e i k)
 
   pub acyclic-sub : (s t : Set) → Within (d .m) s t → Acyclic d t → Acyclic d s
