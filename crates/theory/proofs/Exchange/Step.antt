@@ -62,7 +62,7 @@ module _ (d : Design) (forest : ℕ → ℕ) (x y : ℕ) (unplaced : forest x �
   own = inForest forest (forest y)
 
   -- y's forest has x in place of y, and the others are as they were
-  forest-swapped : inForest (exchanged forest x y) (forest y) ≡ (inForest forest (forest y) without y with x)
+  pub forest-swapped : inForest (exchanged forest x y) (forest y) ≡ (inForest forest (forest y) without y with x)
   forest-swapped =
       forest-put (put forest x (forest y)) y 0 (forest y)
       ∙ ap (λ (s : Set). put s y (0 =? forest y)) (forest-put forest x (forest y) (forest y))
@@ -70,7 +70,7 @@ module _ (d : Design) (forest : ℕ → ℕ) (x y : ℕ) (unplaced : forest x �
       (is-false (0 =? forest y) (λ t. omega (arith, arc .placed, eq-of _ _ t)))
       ∙ put-comm (inForest forest (forest y)) x y true false different
 
-  forest-kept : (j : ℕ) → 1 ≤ j → j ≢ forest y → inForest (exchanged forest x y) j ≡ inForest forest j
+  pub forest-kept : (j : ℕ) → 1 ≤ j → j ≢ forest y → inForest (exchanged forest x y) j ≡ inForest forest j
   forest-kept j l ne =
       forest-put (put forest x (forest y)) y 0 j
       ∙ ap (λ (s : Set). put s y (0 =? j)) (forest-put forest x (forest y) j ∙ put-id (inForest forest j) x (forest y =? j) (same-test _ _ (λ t. absurd (omega (arith, unplaced, forest-is forest j x t))) (λ t. absurd (ne (sym (eq-of _ _ t))))))

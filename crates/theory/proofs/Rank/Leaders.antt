@@ -120,6 +120,19 @@ module _ (near far : ℕ → ℕ → Bool) (eqn : Equivalence near) (eqf : Equiv
         ∙ count-with (λ w. leader near w <? w) n (leader near v) (leader-in near eqn n v (k .other-body))
         (λ t. omega (arith, lt-of _ _ t, leader-leads near eqn v lv))
 
+-- u and v are linked either way round
+pub linked-turned : (near far : ℕ → ℕ → Bool) (eqn : Equivalence near) (eqf : Equivalence far) (n u v : ℕ) → Linked near far eqn eqf n u v
+    → Linked near far eqn eqf n v u
+linked-turned near far eqn eqf n u v k =
+    record {
+      one-body = k .other-body;
+      other-body = k .one-body;
+      apart = λ p. k .apart (eqn .symm v u p);
+      grows = k .grows;
+      links = eqf .symm u v (k .links);
+      only = λ x y p. ⊎-elim (λ q. inl q) (⊎-elim (λ q. inr (inr q)) (λ q. inr (inl q))) (k .only x y p);
+    }
+
 -- one more is not its own leader once two classes are linked
 pub rank-linked : (near far : ℕ → ℕ → Bool) (eqn : Equivalence near) (eqf : Equivalence far) (n u v : ℕ) → Linked near far eqn eqf n u v
     → rankOf far n ≡ suc (rankOf near n)
@@ -128,15 +141,4 @@ rank-linked near far eqn eqf n u v k =
     (λ l.
     by-eq (leader near u) (leader near v) (λ q. absurd (k .apart (same-leader near eqn u v (k .one-body .low) (k .other-body .low) q)))
     (λ ne. rank-less near far eqn eqf n u v k (omega arith)))
-    (λ l. rank-less near far eqn eqf n v u turned l)
-  where
-    turned : Linked near far eqn eqf n v u
-    turned =
-        record {
-          one-body = k .other-body;
-          other-body = k .one-body;
-          apart = λ p. k .apart (eqn .symm v u p);
-          grows = k .grows;
-          links = eqf .symm u v (k .links);
-          only = λ x y p. ⊎-elim (λ q. inl q) (⊎-elim (λ q. inr (inr q)) (λ q. inr (inl q))) (k .only x y p);
-        }
+    (λ l. rank-less near far eqn eqf n v u (linked-turned near far eqn eqf n u v k) l)

@@ -1,0 +1,4 @@
+pub mod Rows
+pub mod Single
+pub mod Trees
+pub mod Joining
