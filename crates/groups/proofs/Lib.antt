@@ -1,0 +1,4 @@
+pub mod Planting
+pub mod Thinning
+pub mod Judging
+pub mod Reading

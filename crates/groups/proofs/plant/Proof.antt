@@ -1,0 +1,106 @@
+-- `groups::plant`: the edges that are left are planted one by one (Planting.antt).
+use borrow.Author.Needs.{needs}
+use mathlib.Core.Path.{sym, _∙_}
+use Prim.Native.Nat.{_-_}
+use native.Mathlib.Omega.{arith}
+use Rattle.groups.proofs.Planting.{Grows, grows-none, grows-past, grows-ready, grows-more, grows-all}
+use Rattle.groups.proofs.plant.Statement.{statement}
+use Rattle.groups.proofs.plant.Tie as tie
+
+abbrev Inv-loop : tie.InvT-loop
+Inv-loop ones others left count root₀ who₀ e₀ root who e = Grows count ones others left root who e
+
+abbrev μ-loop : tie.MeasureT-loop
+μ-loop ones others left count root₀ who₀ e₀ root who e = count - e
+
+begin-requires : tie.Need-begin-requires Inv-loop μ-loop
+begin-requires c κs = search needs
+
+loop-holds : tie.Need-loop-holds Inv-loop μ-loop
+loop-holds c = grows-none _ _ _ _ _ _ (c .begin .ensures)
+
+element-copy-out-wide : tie.Need-element-copy-out-wide Inv-loop μ-loop
+element-copy-out-wide c = omega (arith, c .before .before .before .before .before .pre .0 .lent .most, c .loop-test .taken)
+
+wide-requires : tie.Need-wide-requires Inv-loop μ-loop
+wide-requires c κs = search needs
+
+element-copy-out-wide-2 : tie.Need-element-copy-out-wide-2 Inv-loop μ-loop
+element-copy-out-wide-2 c = omega (arith, c .before .before .before .before .before .before .before .pre .0 .lent .most, c .before .before .loop-test .taken)
+
+wide-requires-2 : tie.Need-wide-requires-2 Inv-loop μ-loop
+wide-requires-2 c κs = search needs
+
+element-copy-out-wide-3 : tie.Need-element-copy-out-wide-3 Inv-loop μ-loop
+element-copy-out-wide-3 c = omega (arith, c .before .before .before .before .before .before .before .before .before .pre .0 .lent .most, c .before .before .before .before .loop-test .taken)
+
+wide-requires-3 : tie.Need-wide-requires-3 Inv-loop μ-loop
+wide-requires-3 c κs = search needs
+
+add-e : tie.Need-add-e Inv-loop μ-loop
+add-e c = search needs
+
+unite-requires : tie.Need-unite-requires Inv-loop μ-loop
+unite-requires c κs =
+    let start = c .before .before .before .before .before .before .before .before .before .before .before .before .before .before in
+    let read = c .before .before .before in
+    let loop = read .before .before .before .before .before .before .before .loop in
+    grows-ready (start .args .count) (start .args .ones .now) (start .args .others .now) (start .args .left .now) (loop .root) (loop .who) (loop .e)
+    (read .before .before .before .before .before .before .loop-test .taken) (loop .inv) (start .pre .0) (read .before .before .before .before .wide .result)
+    (read .before .before .wide2 .result) (read .wide3 .result) (read .before .before .before .before .wide .ensures) (read .before .before .wide2 .ensures)
+    (read .wide3 .ensures) (c .before .before .if1 .taken)
+
+loop-less : tie.Need-loop-less Inv-loop μ-loop
+loop-less c = search needs
+
+loop-again : tie.Need-loop-again Inv-loop μ-loop
+loop-again c =
+    let start = c .before .before .before .before .before .before .before .before .before .before .before .before .before .before .before in
+    let read = c .before .before .before .before in
+    let loop = read .before .before .before .before .before .before .before .loop in
+    grows-more (start .args .count) (start .args .ones .now) (start .args .others .now) (start .args .left .now) (loop .root) (loop .who) (loop .e)
+    (read .before .before .before .before .before .before .loop-test .taken) (loop .inv) (start .pre .0) (read .before .before .before .before .wide .result)
+    (read .before .before .wide2 .result) (read .wide3 .result) (read .before .before .before .before .wide .ensures) (read .before .before .wide2 .ensures)
+    (read .wide3 .ensures) (c .before .before .before .if1 .taken) (c .unite .last .1 .1 .1 .0) (c .unite .last .1 .1 .1 .1 .0) (c .unite .result)
+    (c .unite .ensures)
+
+loop-less-2 : tie.Need-loop-less-2 Inv-loop μ-loop
+loop-less-2 c = search needs
+
+loop-again-2 : tie.Need-loop-again-2 Inv-loop μ-loop
+loop-again-2 c =
+    let start = c .before .before .before .before .before .before .before .before .before .before .before .before in
+    let read = c .before in
+    let loop = read .before .before .before .before .before .before .before .loop in
+    grows-past (start .args .count) (start .args .ones .now) (start .args .others .now) (start .args .left .now) (loop .root) (loop .who) (loop .e)
+    (read .before .before .before .before .before .before .loop-test .taken) (loop .inv)
+    (sym (read .before .before .before .before .wide .ensures) ∙ c .if1 .left)
+
+returns : tie.Need-returns Inv-loop μ-loop
+returns c =
+    let start = c .before .before .before .before .before in
+    let loop = c .before .loop in
+    grows-all (start .args .count) (start .args .ones .now) (start .args .others .now) (start .args .left .now) (loop .root) (loop .who) (loop .e)
+    (c .loop-test .left) (loop .inv)
+
+pub plant-spec : {M : Type 1} → statement M
+plant-spec =
+    tie.close
+    (tie.spec
+    Inv-loop
+    μ-loop
+    begin-requires
+    loop-holds
+    element-copy-out-wide
+    wide-requires
+    element-copy-out-wide-2
+    wide-requires-2
+    element-copy-out-wide-3
+    wide-requires-3
+    add-e
+    unite-requires
+    loop-less
+    loop-again
+    loop-less-2
+    loop-again-2
+    returns)
