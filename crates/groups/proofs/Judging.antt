@@ -10,7 +10,7 @@ use native.Mathlib.Numerals.{add-one}
 use native.Mathlib.Omega.{arith}
 use lib.ListN.{length, getD, set, length-set}
 use Rattle.rule.specs.Sets.{Is, _and_, isnt, _<?_, Set, In, put, one-if, count, at}
-use Rattle.rule.proofs.Tests.{cases, never, same-test, is-false, and-make, and-l, and-r, isnt-make, isnt-not, lt-of, lt-is, in-split, put-same, put-other}
+use Rattle.rule.proofs.Tests.{cases, by-eq, never, same-test, is-false, and-make, and-l, and-r, isnt-make, isnt-not, lt-of, lt-is, in-split, put-same, put-other}
 use Rattle.rule.proofs.Counting.{count-eq, count-le, count-pos, count-split}
 use Rattle.rule.proofs.Places.{at-suc, at-set}
 use Rattle.groups.specs.Passes.{Thinned}
@@ -131,3 +131,8 @@ module _ (stay : Set) (m : ℕ) (before after : List ℕ) (gone : ℕ) (t : Thin
   thinned-none none e h l =
       cases (stay e) (λ s. s)
       (λ n. absurd (omega (arith, t .number, count-pos (going stay before) m e h (and-make (0 <? at before e) _ (lt-is 0 _ l) (isnt-make (stay e) n)))))
+
+  pub thinned-same : gone ≡ 0 → (e : ℕ) → In m e → at after e ≡ at before e
+  thinned-same none e h =
+      by-eq (at before e) 0 (λ q. t .left e h ∙ subst (λ (z : ℕ). cond (stay e) z 0 ≡ z) (sym q) (either-zero (stay e)))
+      (λ ne. t .left e h ∙ ap (λ (b : Bool). cond b (at before e) 0) (thinned-none none e h (omega arith)))

@@ -2,3 +2,4 @@ pub mod Planting
 pub mod Thinning
 pub mod Judging
 pub mod Reading
+pub mod Shrinking

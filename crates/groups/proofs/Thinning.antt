@@ -27,9 +27,41 @@ use Rattle.theory.proofs.Closed.Laws.{standing-make, standing-in, standing-fore
 unfoldable pub held : Design → (left lim : ℕ → ℕ) → Set
 held d left lim e = every (λ i. spans d (inForest left i) e) (lim e)
 
--- some have their forest, others none, and those of the greatest closed set have theirs
+-- each edge has its forest or none
+abbrev pub Part : (m : ℕ) (forest left : ℕ → ℕ) → Type 0
+Part m forest left = (e : ℕ) → In m e → (left e ≡ forest e) ⊎ (left e ≡ 0)
+
+module _ (d : Design) (forest left : ℕ → ℕ) (p : Part (d .m) forest left) where
+  -- an edge that has a forest has its own
+  own-forest : (e : ℕ) → In (d .m) e → 1 ≤ left e → left e ≡ forest e
+  own-forest e h l = ⊎-elim (λ q. q) (λ q. absurd (omega arith)) (p e h)
+
+  in-own : (i : ℕ) → 1 ≤ i → Within (d .m) (inForest left i) (inForest forest i)
+  in-own i l e h t = let q = forest-is left i e t in forest-make forest i e (sym (own-forest e h (omega arith)) ∙ q)
+
+  -- what is left is arranged as it was
+  pub part-arranged : Arranged d forest → Arranged d left
+  unfolding Permitted
+  part-arranged arr =
+      record {
+        permitted = λ e h. ⊎-elim (λ q. omega (arith, arr .permitted e h)) (λ q. omega arith) (p e h);
+        loopless =
+            λ i h.
+            acyclic-loopless d (inForest left i)
+            (acyclic-sub d (inForest left i) (inForest forest i) (in-own i (h .low)) (loopless-acyclic d (inForest forest i) (arr .loopless i h)));
+      }
+
+-- one pass leaves each edge its forest or takes it
+pub part-next : (m : ℕ) (forest left next : ℕ → ℕ) (stay : Set) → ((e : ℕ) → In m e → next e ≡ cond (stay e) (left e) 0) → Part m forest left
+    → Part m forest next
+part-next m forest left next stay judged p e h =
+    cases (stay e)
+    (λ t. let q = judged e h ∙ ap (λ (z : Bool). cond z (left e) 0) t in ⊎-elim (λ o. inl (q ∙ o)) (λ o. inr (q ∙ o)) (p e h))
+    (λ n. inr (judged e h ∙ ap (λ (z : Bool). cond z (left e) 0) (is-false _ n)))
+
+-- the edges of the greatest closed set have theirs
 pub record Between (d : Design) (forest lim left : ℕ → ℕ) : Type 0 where
-  pub part : (e : ℕ) → In (d .m) e → (left e ≡ forest e) ⊎ (left e ≡ 0)
+  pub part : Part (d .m) forest left
   pub holds : (e : ℕ) → In (d .m) e → Is (greatest d forest lim e) → left e ≡ forest e
 
 module _ (d : Design) (forest lim : ℕ → ℕ) where
@@ -37,27 +69,6 @@ module _ (d : Design) (forest lim : ℕ → ℕ) where
   between-all = record { part = λ e h. inl refl; holds = λ e h t. refl }
 
   module _ (left : ℕ → ℕ) (b : Between d forest lim left) where
-    -- an edge that has a forest has its own
-    own-forest : (e : ℕ) → In (d .m) e → 1 ≤ left e → left e ≡ forest e
-    own-forest e h l = ⊎-elim (λ q. q) (λ q. absurd (omega arith)) (b .part e h)
-
-    in-own : (i : ℕ) → 1 ≤ i → Within (d .m) (inForest left i) (inForest forest i)
-    in-own i l e h t =
-        let q = forest-is left i e t in
-        forest-make forest i e (sym (own-forest e h (omega arith)) ∙ q)
-
-    -- what is left is arranged as it was
-    pub between-arranged : Arranged d forest → Arranged d left
-    unfolding Permitted
-    between-arranged arr =
-        record {
-          permitted = λ e h. ⊎-elim (λ q. omega (arith, arr .permitted e h)) (λ q. omega arith) (b .part e h);
-          loopless =
-              λ i h.
-              acyclic-loopless d (inForest left i)
-              (acyclic-sub d (inForest left i) (inForest forest i) (in-own i (h .low)) (loopless-acyclic d (inForest forest i) (arr .loopless i h)));
-        }
-
     -- ---- one pass
 
     -- the greatest closed set holds the ends of its edges
@@ -76,11 +87,7 @@ module _ (d : Design) (forest lim : ℕ → ℕ) where
       pub between-next : Between d forest lim next
       between-next =
           record {
-            part =
-                λ e h.
-                cases (held d left lim e)
-                (λ t. let q = judged e h ∙ ap (λ (z : Bool). cond z (left e) 0) t in ⊎-elim (λ p. inl (q ∙ p)) (λ p. inr (q ∙ p)) (b .part e h))
-                (λ n. inr (judged e h ∙ ap (λ (z : Bool). cond z (left e) 0) (is-false _ n)));
+            part = part-next (d .m) forest left next (held d left lim) judged (b .part);
             holds = λ e h t. judged e h ∙ ap (λ (z : Bool). cond z (left e) 0) (greatest-held e h t) ∙ b .holds e h t;
           }
 
@@ -97,12 +104,12 @@ module _ (d : Design) (forest lim : ℕ → ℕ) where
           covers-make d forest lim rest e
           (λ i r.
           spans-mono d (inForest left i) (standing forest rest i)
-          (λ g hg s. standing-make forest rest i g (lt-is _ _ (omega (arith, forest-is left i g s))) (in-own i (r .low) g hg s)) e
+          (λ g hg s. standing-make forest rest i g (lt-is _ _ (omega (arith, forest-is left i g s))) (in-own d forest left (b .part) i (r .low) g hg s)) e
           (every-at (λ i. spans d (inForest left i) e) (lim e) i r (stable e h (lt-of _ _ t))))
 
       rest-kept : Within (d .m) rest (keptIn d forest)
       unfolding rest
-      rest-kept e h t = let l = lt-of _ _ t in kept-make d forest e (h .high) (omega (arith, own-forest e h l))
+      rest-kept e h t = let l = lt-of _ _ t in kept-make d forest e (h .high) (omega (arith, own-forest d forest left (b .part) e h l))
 
       pub stable-greatest : (e : ℕ) → In (d .m) e → left e ≡ cond (greatest d forest lim e) (forest e) 0
       unfolding rest
@@ -121,7 +128,7 @@ module _ (d : Design) (forest lim : ℕ → ℕ) where
           joined-agree d (inForest left i) (standing forest (greatest d forest lim) i)
           (λ e h t.
           standing-make forest (greatest d forest lim) i e
-          (greatest-holds d forest lim rest rest-kept rest-closed e h (lt-is _ _ (omega (arith, forest-is left i e t)))) (in-own i l e h t))
+          (greatest-holds d forest lim rest rest-kept rest-closed e h (lt-is _ _ (omega (arith, forest-is left i e t)))) (in-own d forest left (b .part) i l e h t))
           (λ e h t.
           forest-make left i e
           (b .holds e h (standing-in forest (greatest d forest lim) i e t) ∙ forest-is forest i e (standing-forest forest (greatest d forest lim) i e t)))
