@@ -3,3 +3,5 @@ pub mod Thinning
 pub mod Judging
 pub mod Reading
 pub mod Shrinking
+pub mod Crowds
+pub mod Listing

@@ -27,7 +27,7 @@ use Rattle.labels.specs.Labels.{Begun, Ready, United}
 use Rattle.labels.proofs.Carried.{row-kept, labels-carried, united-else}
 use Rattle.groups.specs.Lent.{Lent, Given}
 use Rattle.groups.specs.Passes.{Planted}
-use Rattle.groups.proofs.Reading.{ends-tabled}
+use Rattle.groups.proofs.Reading.{ends-tabled, labels-seated}
 
 -- ---- one number more of a set
 
@@ -131,16 +131,20 @@ module _ (m : ℕ) (ones others forests : List ℕ) where
         labels = λ d lent arr. growing-none d (at forests) root who b;
       }
 
-  pub grows-all : (root who : List ℕ) (e : ℕ) → m ≤ e → Grows m ones others forests root who e → Planted m ones others forests root who
-  grows-all root who e l g =
+  pub grows-all : Given m ones others forests → (root who : List ℕ) (e : ℕ) → m ≤ e → Grows m ones others forests root who e
+      → Planted m ones others forests root who
+  grows-all given root who e l g =
       record {
         root-long = g .root-long;
         who-long = g .who-long;
-        labels =
-            λ d lent arr.
-            growing-all d (at forests) root who
-            (subst (λ (z : ℕ). Growing d (at forests) z root who) (omega (arith, g .within, lent .edges)) (g .labels d lent arr));
+        seated = labels-seated (given .design) _ root who (all (given .design) (given .lent) (given .arranged));
+        labels = all;
       }
+    where
+      all : (d : Design) → Lent d m ones others → Arranged d (at forests) → (i : ℕ) → In 6 i → Labels d (inForest (at forests) i) i root who
+      all d lent arr =
+          growing-all d (at forests) root who
+          (subst (λ (z : ℕ). Growing d (at forests) z root who) (omega (arith, g .within, lent .edges)) (g .labels d lent arr))
 
   module _ (root who : List ℕ) (e : ℕ) (less : e < m) (g : Grows m ones others forests root who e) where
     -- the next edge, by its number and by its index

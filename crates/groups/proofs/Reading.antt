@@ -3,14 +3,14 @@
 use mathlib.Core.Path.{_≡_, refl, sym, ap, ap₂, _∙_, subst}
 use mathlib.Core.Bool.{Bool, true, false, cond}
 use mathlib.Core.List.{List}
-use Prim.Native.Nat.{ℕ, suc, _-_, _≤_, _<_}
+use Prim.Native.Nat.{ℕ, zero, suc, _-_, _≤_, _<_}
 use native.Mathlib.Omega.{arith}
 use lib.ListN.{getD}
 use Rattle.rule.specs.Sets.{Is, _=?_, Set, In, at}
 use Rattle.rule.specs.Legal.{Design, Ends}
 use Rattle.rule.specs.Forests.{inForest}
-use Rattle.rule.proofs.Tests.{same-test, and-make}
-use Rattle.theory.specs.Numbers.{every}
+use Rattle.rule.proofs.Tests.{same-test, and-make, in-one, in-last}
+use Rattle.theory.specs.Numbers.{or-else, smallest, every}
 use Rattle.theory.specs.Joined.{joined, spans}
 use Rattle.theory.specs.Closed.{standing}
 use Rattle.theory.specs.Groups.{joinedInAll}
@@ -19,13 +19,19 @@ use Rattle.theory.proofs.Joined.Laws.{joined-refl}
 use Rattle.words.specs.Bits.{bit}
 use Rattle.tables.specs.Tables.{label, crowd, Labels}
 use Rattle.groups.specs.Lent.{Lent, Coloured, limits}
-use Rattle.groups.specs.Passes.{sameLabels, stays}
-use Rattle.groups.specs.Classes.{together, Seated}
+use Rattle.groups.specs.Passes.{Seated, sameLabels, stays}
+use Rattle.groups.specs.Classes.{together, Listed}
 use Rattle.groups.proofs.Thinning.{held}
 
 every-same : (p q : Set) (j : ℕ) → ((i : ℕ) → In j i → p i ≡ q i) → every p j ≡ every q j
 every-same p q j f =
     same-test _ _ (λ h. every-make q j (λ i r. sym (f i r) ∙ every-at p j i r h)) (λ h. every-make p j (λ i r. f i r ∙ every-at q j i r h))
+
+smallest-same : (p q : Set) (j : ℕ) → ((i : ℕ) → In j i → p i ≡ q i) → smallest p j ≡ smallest q j
+unfolding smallest
+smallest-same p q zero f = refl
+smallest-same p q (suc j) f =
+    ap₂ (λ (x : ℕ) (t : Bool). or-else x (cond t (suc j) 0)) (smallest-same p q j (λ i r. f i (in-one j i r))) (f (suc j) (in-last j))
 
 -- either of two numbers, as a test says
 pub either-most : (t : Bool) (x y most : ℕ) → x ≤ most → y ≤ most → cond t x y ≤ most
@@ -79,16 +85,30 @@ module _ (d : Design) (m : ℕ) (ones others colours : List ℕ) (lent : Lent d 
 
 -- ---- the bodies
 
-module _ (d : Design) (forest : ℕ → ℕ) (c : Set) (root who : List ℕ) (labels : (i : ℕ) → In 6 i → Labels d (standing forest c i) i root who) where
-  pub labels-seated : Seated root who
-  labels-seated =
-      record {
-        small = λ i v hi hv. labels i hi .small v hv;
-        own = λ i v hi hv. labels i hi .bodies v v hv hv ∙ joined-refl d (standing forest c i) v;
-      }
+pub labels-seated : (d : Design) (s : ℕ → Set) (root who : List ℕ) → ((i : ℕ) → In 6 i → Labels d (s i) i root who) → Seated root who
+labels-seated d s root who labels =
+    record {
+      small = λ i v hi hv. labels i hi .small v hv;
+      own = λ i v hi hv. labels i hi .bodies v v hv hv ∙ joined-refl d (s i) v;
+    }
 
-  -- two bodies are together exactly when c joins them in each of the forests
-  pub together-joined : (j : ℕ) → j ≤ 6 → (v u : ℕ) → In 64 v → In 64 u → together root who j v u ≡ joinedInAll d forest c j v u
-  unfolding together joinedInAll
-  together-joined j few v u hv hu =
-      every-same (λ i. bit (crowd who i (label root i v)) (u - 1)) (λ i. joined d (standing forest c i) v u) j (λ i r. labels i (omega arith) .bodies v u hv hu)
+-- two bodies are together exactly when c joins them in each of the forests
+pub together-joined : (d : Design) (forest : ℕ → ℕ) (c : Set) (root who : List ℕ) → ((i : ℕ) → In 6 i → Labels d (standing forest c i) i root who)
+    → (j : ℕ) → j ≤ 6 → (v u : ℕ) → In 64 v → In 64 u → together root who j v u ≡ joinedInAll d forest c j v u
+unfolding together joinedInAll
+together-joined d forest c root who labels j few v u hv hu =
+    every-same (λ i. bit (crowd who i (label root i v)) (u - 1)) (λ i. joined d (standing forest c i) v u) j (λ i r. labels i (omega arith) .bodies v u hv hu)
+
+-- so a list of the bodies that are together is one of the bodies that c joins
+pub listed-joined : (d : Design) (forest : ℕ → ℕ) (c : Set) (root who : List ℕ) → ((i : ℕ) → In 6 i → Labels d (standing forest c i) i root who)
+    → (j n : ℕ) → j ≤ 6 → n ≤ 64 → (before after : List ℕ) → Listed (together root who j) n before after → Listed (joinedInAll d forest c j) n before after
+listed-joined d forest c root who labels j n few fits before after l =
+    record {
+      as-long = l .as-long;
+      leads =
+          λ v h.
+          l .leads v h
+          ∙ smallest-same (together root who j v) (joinedInAll d forest c j v) n
+          (λ u r. together-joined d forest c root who labels j few v u (omega arith) (omega arith));
+      past = l .past;
+    }

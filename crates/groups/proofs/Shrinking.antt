@@ -79,6 +79,7 @@ module _ (m : ℕ) (ones others colours : List ℕ) (red black : ℕ) (before : 
               as-long = t .as-long ∙ s .as-long;
               root-long = p .root-long;
               who-long = p .who-long;
+              seated = p .seated;
               core =
                   λ d lent coloured arr.
                   let b = s .between d lent coloured arr in

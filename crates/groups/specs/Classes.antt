@@ -1,10 +1,9 @@
 -- Classes of bodies, read off the labels of the forests, and listed by their smallest bodies.
 use mathlib.Core.Path.{_≡_}
-use mathlib.Core.Bool.{Bool}
 use mathlib.Core.List.{List}
-use Prim.Native.Nat.{ℕ, _-_, _≤_, _<_}
+use Prim.Native.Nat.{ℕ, _-_}
 use lib.ListN.{length, drop}
-use Rattle.rule.specs.Sets.{Is, Set, In, at}
+use Rattle.rule.specs.Sets.{Set, In, at}
 use Rattle.rule.specs.Legal.{Design}
 use Rattle.rule.specs.Forests.{Arranged}
 use Rattle.theory.specs.Numbers.{every, smallest}
@@ -18,11 +17,6 @@ use Rattle.groups.specs.Lent.{Lent, Coloured, limits}
 unfoldable pub together : (root who : List ℕ) (j v : ℕ) → Set
 together root who j v u = every (λ i. bit (crowd who i (label root i v)) (u - 1)) j
 
--- each body is in the word of its label
-pub record Seated (root who : List ℕ) : Type 0 where
-  pub small : (i v : ℕ) → In 6 i → In 64 v → label root i v < 64
-  pub own : (i v : ℕ) → In 6 i → In 64 v → Is (bit (crowd who i (label root i v)) (v - 1))
-
 -- the first n places hold, for each body in order, the smallest body near it; the places past them what they held
 pub record Listed (near : ℕ → Set) (n : ℕ) (before after : List ℕ) : Type 0 where
   pub as-long : length after ≡ length before
@@ -32,5 +26,5 @@ pub record Listed (near : ℕ → Set) (n : ℕ) (before after : List ℕ) : Typ
 -- two bodies are near when the greatest closed set joins them in each of the forests 1 to j
 abbrev pub Classes : (m : ℕ) (ones others colours forests : List ℕ) (red black j n : ℕ) (before after : List ℕ) → Type 0
 Classes m ones others colours forests red black j n before after =
-    (d : Design) → Lent d m ones others → Coloured d colours → Arranged d (at forests) → d .n ≡ n
+    (d : Design) → Lent d m ones others → Coloured d colours → Arranged d (at forests)
     → Listed (joinedInAll d (at forests) (greatest d (at forests) (limits d red black)) j) n before after

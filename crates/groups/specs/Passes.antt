@@ -3,23 +3,30 @@
 use mathlib.Core.Path.{_≡_}
 use mathlib.Core.Bool.{Bool, cond}
 use mathlib.Core.List.{List}
-use Prim.Native.Nat.{ℕ, _≤_}
+use Prim.Native.Nat.{ℕ, _-_, _<_}
 use lib.ListN.{length}
-use Rattle.rule.specs.Sets.{_and_, isnt, _=?_, _<?_, Set, In, count, at}
+use Rattle.rule.specs.Sets.{Is, _and_, isnt, _=?_, _<?_, Set, In, count, at}
 use Rattle.rule.specs.Legal.{Design}
 use Rattle.rule.specs.Forests.{inForest, Arranged}
 use Rattle.theory.specs.Numbers.{every}
 use Rattle.theory.specs.Closed.{standing, greatest}
-use Rattle.tables.specs.Tables.{label, Labels}
+use Rattle.words.specs.Bits.{bit}
+use Rattle.tables.specs.Tables.{label, crowd, Labels}
 use Rattle.labels.specs.Rows.{Long}
 use Rattle.groups.specs.Lent.{Lent, Coloured, limits}
 
 -- ---- the labels of the forests
 
+-- each body is in the word of its label
+pub record Seated (root who : List ℕ) : Type 0 where
+  pub small : (i v : ℕ) → In 6 i → In 64 v → label root i v < 64
+  pub own : (i v : ℕ) → In 6 i → In 64 v → Is (bit (crowd who i (label root i v)) (v - 1))
+
 -- root and who have the labels of each forest
 pub record Planted (m : ℕ) (ones others forests root who : List ℕ) : Type 0 where
   pub root-long : Long root
   pub who-long : Long who
+  pub seated : Seated root who
   pub labels : (d : Design) → Lent d m ones others → Arranged d (at forests) → (i : ℕ) → In 6 i → Labels d (inForest (at forests) i) i root who
 
 -- ---- one pass
@@ -49,5 +56,6 @@ pub record Shrunk (m : ℕ) (ones others colours : List ℕ) (red black : ℕ) (
   pub as-long : length after ≡ length before
   pub root-long : Long root
   pub who-long : Long who
+  pub seated : Seated root who
   pub core : (d : Design) → Lent d m ones others → Coloured d colours → Arranged d (at before)
       → Core d (at before) (limits d red black) after root who

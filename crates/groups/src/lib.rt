@@ -11,8 +11,8 @@ ghost use Rattle.rule.specs.Sets.{In, _=?_, at};
 ghost use Rattle.words.specs.Bits.{bit};
 ghost use Rattle.labels.specs.Rows.{Long};
 ghost use Rattle.groups.specs.Lent.{Given};
-ghost use Rattle.groups.specs.Passes.{Planted, sameLabels, stays, Thinned, Shrunk};
-ghost use Rattle.groups.specs.Classes.{together, Seated, Listed, Classes};
+ghost use Rattle.groups.specs.Passes.{Seated, Planted, sameLabels, stays, Thinned, Shrunk};
+ghost use Rattle.groups.specs.Classes.{together, Listed, Classes};
 
 fn wide(x: u8) -> usize
     ensures { λ r. ⌜ r ≡ x ⌝ }
@@ -21,7 +21,14 @@ fn wide(x: u8) -> usize
 }
 
 // The labels of the forests of the edges that are left.
-fn plant(ones: &[u8; 512], others: &[u8; 512], left: &[u8; 512], count: usize, root: &mut [u8; 384], who: &mut [u64; 384])
+fn plant(
+    ones: &[u8; 512],
+    others: &[u8; 512],
+    left: &[u8; 512],
+    count: usize,
+    root: &mut [u8; 384],
+    who: &mut [u64; 384],
+)
     requires { ⌜ Given count (now ones) (now others) (now left) ⌝ }
     requires { ⌜ Long (now root) × Long (now who) ⌝ }
     ensures { λ r. ⌜ Planted count (now (ones .entry)) (now (others .entry)) (now (left .entry)) (now (root .exit)) (now (who .exit)) ⌝ }
@@ -62,7 +69,15 @@ fn limit(colour: u8, red: usize, black: usize) -> usize
 }
 
 // The edge at index e stays in this pass.
-fn remains(ones: &[u8; 512], others: &[u8; 512], colours: &[u8; 512], root: &[u8; 384], red: usize, black: usize, e: usize) -> bool
+fn remains(
+    ones: &[u8; 512],
+    others: &[u8; 512],
+    colours: &[u8; 512],
+    root: &[u8; 384],
+    red: usize,
+    black: usize,
+    e: usize,
+) -> bool
     requires { ⌜ (e < 512) × ((red ≤ 6) × (black ≤ 6)) ⌝ }
     requires { ⌜ In 64 (at (now ones) (suc e)) × In 64 (at (now others) (suc e)) ⌝ }
     ensures { λ r. ⌜ r ≡ stays (now (root .entry)) (now (ones .entry)) (now (others .entry)) (now (colours .entry)) red black (suc e) ⌝ }
@@ -74,7 +89,16 @@ fn remains(ones: &[u8; 512], others: &[u8; 512], colours: &[u8; 512], root: &[u8
 }
 
 // One pass of deletion: all edges are judged by the same labels. Answers how many are deleted.
-fn thin(ones: &[u8; 512], others: &[u8; 512], colours: &[u8; 512], root: &[u8; 384], red: usize, black: usize, count: usize, left: &mut [u8; 512]) -> usize
+fn thin(
+    ones: &[u8; 512],
+    others: &[u8; 512],
+    colours: &[u8; 512],
+    root: &[u8; 384],
+    red: usize,
+    black: usize,
+    count: usize,
+    left: &mut [u8; 512],
+) -> usize
     requires { ⌜ (red ≤ 6) × (black ≤ 6) ⌝ }
     requires { ⌜ (count ≤ 512) × (length (now left) ≡ 512) ⌝ }
     requires { ⌜ ((e : ℕ) → In count e → In 64 (at (now ones) e) × In 64 (at (now others) e)) ⌝ }
@@ -96,7 +120,17 @@ fn thin(ones: &[u8; 512], others: &[u8; 512], colours: &[u8; 512], root: &[u8; 3
 }
 
 // The greatest closed set: passes of deletion until nothing changes.
-pub fn shrink(ones: &[u8; 512], others: &[u8; 512], colours: &[u8; 512], red: usize, black: usize, count: usize, left: &mut [u8; 512], root: &mut [u8; 384], who: &mut [u64; 384])
+pub fn shrink(
+    ones: &[u8; 512],
+    others: &[u8; 512],
+    colours: &[u8; 512],
+    red: usize,
+    black: usize,
+    count: usize,
+    left: &mut [u8; 512],
+    root: &mut [u8; 384],
+    who: &mut [u64; 384],
+)
     requires { ⌜ Given count (now ones) (now others) (now left) ⌝ }
     requires { ⌜ (red ≤ 6) × (black ≤ 6) ⌝ }
     requires { ⌜ (length (now left) ≡ 512) × (Long (now root) × Long (now who)) ⌝ }
@@ -111,8 +145,8 @@ pub fn shrink(ones: &[u8; 512], others: &[u8; 512], colours: &[u8; 512], red: us
     }
 }
 
-// The bodies that have the label of v in each of the forests 1 to j.
-fn crowd(root: &[u8; 384], who: &[u64; 384], j: usize, v: usize) -> u64
+// The class of body v: the bodies that have its label in each of the forests 1 to j.
+fn class_of(root: &[u8; 384], who: &[u64; 384], j: usize, v: usize) -> u64
     requires { ⌜ (j ≤ 6) × (In 64 v × Seated (now root) (now who)) ⌝ }
     ensures { λ r. ⌜ ((u : ℕ) → In 64 u → bit r (u - 1) ≡ together (now (root .entry)) (now (who .entry)) j v u) ⌝ }
 {
@@ -135,22 +169,43 @@ pub fn leaders(root: &[u8; 384], who: &[u64; 384], j: usize, n: usize, list: &mu
 {
     let mut v: usize = 0;
     while v < n {
-        let word = crowd(root, who, j, v + 1);
+        let word = class_of(root, who, j, v + 1);
         list[v] = (words::lowest(word) + 1) as u8;
         v = v + 1;
     }
 }
 
 // For each of the bodies 1 to n the smallest body of its class.
-pub fn classes(ones: &[u8; 512], others: &[u8; 512], colours: &[u8; 512], forests: &[u8; 512], red: usize, black: usize, j: usize, n: usize, count: usize, list: &mut [u8])
+pub fn classes(
+    ones: &[u8; 512],
+    others: &[u8; 512],
+    colours: &[u8; 512],
+    forests: &[u8; 512],
+    red: usize,
+    black: usize,
+    j: usize,
+    n: usize,
+    count: usize,
+    list: &mut [u8],
+)
     requires { ⌜ Given count (now ones) (now others) (now forests) ⌝ }
     requires { ⌜ (red ≤ 6) × ((black ≤ 6) × (j ≤ 6)) ⌝ }
-    requires { ⌜ (n ≤ 64) × (n ≤ length (now list)) ⌝ }
+    requires { ⌜ (length (now forests) ≡ 512) × ((n ≤ 64) × (n ≤ length (now list))) ⌝ }
     ensures { λ r. ⌜ Classes count (now (ones .entry)) (now (others .entry)) (now (colours .entry)) (now (forests .entry)) red black j n (now (list .entry)) (now (list .exit)) ⌝ }
 {
     let mut left = *forests;
     let mut root = [0u8; 384];
     let mut who = [0u64; 384];
-    shrink(ones, others, colours, red, black, count, &mut left, &mut root, &mut who);
+    shrink(
+        ones,
+        others,
+        colours,
+        red,
+        black,
+        count,
+        &mut left,
+        &mut root,
+        &mut who,
+    );
     leaders(&root, &who, j, n, list);
 }

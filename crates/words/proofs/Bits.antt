@@ -6,7 +6,8 @@ use mathlib.Core.Bool.{Bool, true, false, false≢true, Bool·beq, not}
 use Prim.Native.Nat.{ℕ, zero, suc, _+_, _*_, _-_, _/_, _%_, _^_, _≤_, _<_, min, max}
 use native.Mathlib.Nat.{pow-zero, pow-suc, mul-div-cancel, mul-mod-left, mod-lt, div-add-mod', zero-div, zero-mod}
 use native.Mathlib.Omega.{arith}
-use lib.Bits.{bitXor, bitOr, differ, xor-step, or-step, xor-zero-r}
+use lib.Bits.{bitAnd, bitXor, bitOr, differ, and-step, xor-step, or-step, xor-zero-r}
+use lib.Pow.{pow-pos}
 use lib.Count.{trailingZeros, under}
 use lib.Dec.{eqb·suc-zero, eqb·zero-suc, eqb·suc-suc}
 use Rattle.rule.specs.Sets.{Is, _and_, _or_, isnt, _=?_}
@@ -41,31 +42,35 @@ other-digits n q r e l = omega arith
 
 -- ---- the operations on words
 
-digit-xor : (x y : ℕ) → differ (x % 2) (y % 2) < 2
-digit-xor x y = by-digit (λ a. differ a (y % 2) < 2) (by-digit (λ b. differ 0 b < 2) (omega arith) (omega arith) y) (by-digit (λ b. differ 1 b < 2) (omega arith) (omega arith) y) x
+-- what an operation makes of two digits is a digit, and tells the test of the two
+abbrev Digits : (digit : ℕ → ℕ → ℕ) (test : Bool → Bool → Bool) (a b : ℕ) → Type 0
+Digits digit test a b = (digit a b < 2) × ((digit a b =? 1) ≡ test (a =? 1) (b =? 1))
+
+-- an operation that goes digit by digit goes bit by bit
+module _ (op digit : ℕ → ℕ → ℕ) (test : Bool → Bool → Bool) (step : (x y : ℕ) → op x y ≡ op (x / 2) (y / 2) * 2 + digit (x % 2) (y % 2))
+    (none : Digits digit test 0 0) (other : Digits digit test 0 1) (one : Digits digit test 1 0) (both : Digits digit test 1 1) where
+  digits : (x y : ℕ) → Digits digit test (x % 2) (y % 2)
+  digits x y =
+      by-digit (λ a. Digits digit test a (y % 2)) (by-digit (λ b. Digits digit test 0 b) none other y) (by-digit (λ b. Digits digit test 1 b) one both y) x
+
+  bit-by-bit : (x y j : ℕ) → bit (op x y) j ≡ test (bit x j) (bit y j)
+  unfolding bit
+  bit-by-bit x y zero =
+      ap (λ (n : ℕ). n =? 1) (first-digit (op x y) (op (x / 2) (y / 2)) (digit (x % 2) (y % 2)) (step x y) (digits x y .0)) ∙ digits x y .1
+  bit-by-bit x y (suc j) =
+      ap (λ (n : ℕ). bit n j) (other-digits (op x y) (op (x / 2) (y / 2)) (digit (x % 2) (y % 2)) (step x y) (digits x y .0)) ∙ bit-by-bit (x / 2) (y / 2) j
 
 pub bit-xor : (x y j : ℕ) → bit (bitXor x y) j ≡ bit x j differs bit y j
-unfolding bit _differs_ _=?_
-bit-xor x y zero =
-    ap (λ (n : ℕ). n =? 1) (first-digit (bitXor x y) (bitXor (x / 2) (y / 2)) (differ (x % 2) (y % 2)) (xor-step x y) (digit-xor x y))
-    ∙ by-digit (λ a. (differ a (y % 2) =? 1) ≡ (a =? 1) differs (y % 2 =? 1)) (by-digit (λ b. (differ 0 b =? 1) ≡ (0 =? 1) differs (b =? 1)) refl refl y)
-    (by-digit (λ b. (differ 1 b =? 1) ≡ (1 =? 1) differs (b =? 1)) refl refl y) x
-bit-xor x y (suc j) =
-    ap (λ (n : ℕ). bit n j) (other-digits (bitXor x y) (bitXor (x / 2) (y / 2)) (differ (x % 2) (y % 2)) (xor-step x y) (digit-xor x y))
-    ∙ bit-xor (x / 2) (y / 2) j
-
-digit-or : (x y : ℕ) → max (x % 2) (y % 2) < 2
-digit-or x y = omega (arith, low x, low y)
+unfolding _differs_ _=?_
+bit-xor = bit-by-bit bitXor differ _differs_ xor-step (omega arith, refl) (omega arith, refl) (omega arith, refl) (omega arith, refl)
 
 pub bit-or : (x y j : ℕ) → bit (bitOr x y) j ≡ (bit x j or bit y j)
-unfolding bit _or_ _=?_
-bit-or x y zero =
-    ap (λ (n : ℕ). n =? 1) (first-digit (bitOr x y) (bitOr (x / 2) (y / 2)) (max (x % 2) (y % 2)) (or-step x y) (digit-or x y))
-    ∙ by-digit (λ a. (max a (y % 2) =? 1) ≡ ((a =? 1) or (y % 2 =? 1))) (by-digit (λ b. (max 0 b =? 1) ≡ ((0 =? 1) or (b =? 1))) refl refl y)
-    (by-digit (λ b. (max 1 b =? 1) ≡ ((1 =? 1) or (b =? 1))) refl refl y) x
-bit-or x y (suc j) =
-    ap (λ (n : ℕ). bit n j) (other-digits (bitOr x y) (bitOr (x / 2) (y / 2)) (max (x % 2) (y % 2)) (or-step x y) (digit-or x y))
-    ∙ bit-or (x / 2) (y / 2) j
+unfolding _or_ _=?_
+bit-or = bit-by-bit bitOr max _or_ or-step (omega arith, refl) (omega arith, refl) (omega arith, refl) (omega arith, refl)
+
+pub bit-and : (x y j : ℕ) → bit (bitAnd x y) j ≡ (bit x j and bit y j)
+unfolding _and_ _=?_
+bit-and = bit-by-bit bitAnd min _and_ and-step (omega arith, refl) (omega arith, refl) (omega arith, refl) (omega arith, refl)
 
 -- ---- one bit
 
@@ -76,6 +81,17 @@ bit-power zero (suc j) = bit-zero j ∙ sym (eqb·suc-zero j)
 bit-power (suc t) zero = ap (λ (n : ℕ). n % 2 =? 1) (pow-suc 2 t) ∙ ap (λ (n : ℕ). n =? 1) (mul-mod-left (2 ^ t) 2) ∙ sym (eqb·zero-suc t)
 bit-power (suc t) (suc j) =
     ap (λ (n : ℕ). bit (n / 2) j) (pow-suc 2 t) ∙ ap (λ (n : ℕ). bit n j) (mul-div-cancel (2 ^ t) (omega arith)) ∙ bit-power t j ∙ sym (eqb·suc-suc j t)
+
+all-digits : (k : ℕ) → 2 ^ suc k - 1 ≡ (2 ^ k - 1) * 2 + 1
+all-digits k = omega (arith, pow-suc 2 k, pow-pos k)
+
+-- the word with all bits below k
+pub bit-all : (k j : ℕ) → j < k → Is (bit (2 ^ k - 1) j)
+unfolding bit
+bit-all zero j l = absurd (omega arith)
+bit-all (suc k) zero l = eq-is _ 1 (first-digit (2 ^ suc k - 1) (2 ^ k - 1) 1 (all-digits k) (omega arith))
+bit-all (suc k) (suc j) l =
+    ap (λ (n : ℕ). bit n j) (other-digits (2 ^ suc k - 1) (2 ^ k - 1) 1 (all-digits k) (omega arith)) ∙ bit-all k j (omega arith)
 
 -- ---- the lowest bit
 

@@ -80,7 +80,7 @@ returns : tie.Need-returns Inv-loop μ-loop
 returns c =
     let start = c .before .before .before .before .before in
     let loop = c .before .loop in
-    grows-all (start .args .count) (start .args .ones .now) (start .args .others .now) (start .args .left .now) (loop .root) (loop .who) (loop .e)
+    grows-all (start .args .count) (start .args .ones .now) (start .args .others .now) (start .args .left .now) (start .pre .0) (loop .root) (loop .who) (loop .e)
     (c .loop-test .left) (loop .inv)
 
 pub plant-spec : {M : Type 1} → statement M

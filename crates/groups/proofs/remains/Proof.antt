@@ -31,7 +31,7 @@ unfolding at
 same-labels-requires c κs =
     let limit = c .before .before .before .before .limit in
     let start = c .before .before .before .before .before .before in (
-      subst (λ (j : ℕ). j ≤ 6) (sym (limit .ensures)) 
+      subst (λ (j : ℕ). j ≤ 6) (sym (limit .ensures))
           (either-most (getD (start .args .colours .now) (start .args .e) 0 =? 1) (start .args .red) (start .args .black) 6 (start .pre .0 .1 .0)
           (start .pre .0 .1 .1)),
       (subst (In 64) (sym (c .before .before .wide .ensures)) (start .pre .1 .0), subst (In 64) (sym (c .wide2 .ensures)) (start .pre .1 .1)),

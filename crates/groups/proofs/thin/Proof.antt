@@ -27,7 +27,7 @@ element-copy-out-if1 : tie.Need-element-copy-out-if1 Inv-loop μ-loop
 element-copy-out-if1 c = search needs
 
 remains-requires : tie.Need-remains-requires Inv-loop μ-loop
-remains-requires c κs = 
+remains-requires c κs =
     let start = c .before .before .before .before in
     let e = c .before .before .before .loop .e in
     let ends = start .pre .1 .1 (suc e) (omega arith) in
@@ -37,7 +37,7 @@ element-write-left : tie.Need-element-write-left Inv-loop μ-loop
 element-write-left c = search needs
 
 add-gone : tie.Need-add-gone Inv-loop μ-loop
-add-gone c = 
+add-gone c =
     let loop = c .before .before .before .before .before .loop in
     record { fits = omega (arith, judged-few _ _ (loop .left) (loop .e) (loop .gone) (loop .inv .1)) }
 
@@ -45,7 +45,7 @@ loop-less : tie.Need-loop-less Inv-loop μ-loop
 loop-less c = search needs
 
 loop-again : tie.Need-loop-again Inv-loop μ-loop
-loop-again c = 
+loop-again c =
     let start = c .before .before .before .before .before .before in
     let loop = c .before .before .before .before .before .loop in
     let goes = sym (c .before .remains .ensures) ∙ not-true _ (c .if2 .taken) in (
@@ -58,7 +58,7 @@ loop-less-2 : tie.Need-loop-less-2 Inv-loop μ-loop
 loop-less-2 c = search needs
 
 loop-again-2 : tie.Need-loop-again-2 Inv-loop μ-loop
-loop-again-2 c = 
+loop-again-2 c =
     let start = c .before .before .before .before .before .before in
     let loop = c .before .before .before .before .before .loop in (
       omega arith,
@@ -70,13 +70,13 @@ loop-less-3 : tie.Need-loop-less-3 Inv-loop μ-loop
 loop-less-3 c = search needs
 
 loop-again-3 : tie.Need-loop-again-3 Inv-loop μ-loop
-loop-again-3 c = 
+loop-again-3 c =
     let start = c .before .before .before .before in
     let loop = c .before .before .before .loop in
     (omega arith, judged-empty _ (start .args .left .now) (loop .left) (loop .e) (loop .gone) (loop .inv .1) (c .if1 .left))
 
 returns : tie.Need-returns Inv-loop μ-loop
-returns c = 
+returns c =
     let start = c .before .before in
     let loop = c .before .loop in
     judged-all _ (start .args .left .now) (loop .left) (loop .e) (loop .gone) (start .args .count) (loop .inv .0) (c .loop-test .left) (loop .inv .1)
