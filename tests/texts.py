@@ -179,6 +179,21 @@ def trees(draw):
     return Design(a, b, n, edges[:512])
 
 
+def strips(draw):
+    """Bodies in a line, each tied to the next k of them, in any order, mostly black, with a few edges more: nearly tight
+    everywhere, so that an edge finds its place only by a long exchange (20 edges and more)."""
+    a, b = draw.one_of(PROFILES)
+    k = a + b
+    n = draw.between(6, 64)
+    reds = draw.one_of([0, 0, 0, 1, 2])
+    edges = [(u, v, draw.chance(reds, 8)) for u in range(1, n) for v in range(u + 1, min(n, u + k) + 1)]
+    draw.shuffle(edges)
+    edges = edges[:490]
+    for _ in range(draw.between(0, 20)):
+        edges.append((*ends(draw, n, draw.one_of(["near", "any"]), edges), draw.chance(reds, 8)))
+    return Design(a, b, n, edges)
+
+
 # ---- damaged texts
 
 
