@@ -45,8 +45,8 @@ def touched_less_pieces(edges):
 
 
 def check(text, certificate):
-    """(None, forests) where the certificate holds, forests with None for an implied edge and a circuit in its place in circuits;
-    otherwise (what is wrong, None)."""
+    """None and an entry for each edge, its forest number or its circuit, where the certificate holds; else what is wrong, and
+    None."""
     design = design_of(text)
     if certificate[: len(text)] != text:
         return "the book text is not repeated", None
