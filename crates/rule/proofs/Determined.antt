@@ -41,7 +41,7 @@ groups-determined {d} {l₁ = l₁} {l₂} p q =
 -- ---- the kept set of a grown design
 
 -- what is kept at e depends on the kept edges below e alone
-keeps-same : (d : Design) (s t : Set) (e : ℕ) → ((f : ℕ) → In (d .m) f → f < e → s f ≡ t f) → Keeps d (below s e) e → Keeps d (below t e) e
+pub keeps-same : (d : Design) (s t : Set) (e : ℕ) → ((f : ℕ) → In (d .m) f → f < e → s f ≡ t f) → Keeps d (below s e) e → Keeps d (below t e) e
 keeps-same d s t e eq legal =
     legal-sub d _ _
     (with-mono (d .m) (below t e) (below s e) e

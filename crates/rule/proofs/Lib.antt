@@ -1,5 +1,6 @@
 pub mod Tests
 pub mod Counting
+pub mod Places
 pub mod Legality
 pub mod Loops
 pub mod Determined

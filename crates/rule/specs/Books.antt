@@ -1,13 +1,13 @@
 -- A book as a design, and when it is sound.
 --
 -- In order: the design, the forests and the kept edges of a book; the ranges of document 01, "Sizes"; the
--- rule of each place (0 the head, e edge e); sound, and the first place that breaks a rule; a design with one edge more.
+-- rule of each place (0 the head, e edge e); sound, and the first place that breaks a rule; grown; a design with one edge more.
 use mathlib.Core.Path.{_≡_}
 use mathlib.Core.Logic.{_⊎_, _≢_}
 use Prim.Native.Nat.{ℕ, zero, suc, _≤_, _<_}
 use Rattle.rule.specs.declared.Book.{Book}
 use Rattle.rule.specs.Sets.{_=?_, Set, In, put, below, at}
-use Rattle.rule.specs.Legal.{Design}
+use Rattle.rule.specs.Legal.{Design, Grown}
 use Rattle.rule.specs.Forests.{Chain, inForest, keptIn, Permitted}
 
 unfoldable pub designOf : Book → Design
@@ -77,6 +77,12 @@ pub record FirstBad (B : Book) (place : ℕ) : Type 0 where
   pub within : place ≤ B .count
   pub breaks : ¬ Obeys B place
   pub first : (before : ℕ) → before < place → Obeys B before
+
+-- ---- grown from empty
+
+-- the edges kept are those that are kept when the book's edges are offered in order to an empty book
+abbrev pub GrownBook : Book → Type 0
+GrownBook B = Grown (designOf B) (keptOf B)
 
 -- ---- one edge more
 

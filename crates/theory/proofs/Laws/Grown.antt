@@ -12,10 +12,10 @@ use Rattle.rule.specs.Books.{plus}
 use Rattle.rule.proofs.Tests.{cases, never, same-test, by-eq, in-one, in-split, put-same, put-other, with-self, with-old, with-elim, without-old, below-in, below-lt, below-make}
 use Rattle.rule.proofs.Counting.{Within, with-mono, Agree, count-eq}
 use Rattle.rule.proofs.Legality.{legal-sub}
-use Rattle.rule.proofs.Determined.{grown-determined}
+use Rattle.rule.proofs.Determined.{keeps-same, grown-determined}
 use Rattle.theory.proofs.Matroid.Arrange.{legal-none, legal-with?}
 use Rattle.theory.proofs.Matroid.Formula.{Maximal, Least, formula}
-use Rattle.theory.proofs.Laws.Plus.{grown-shorter}
+use Rattle.theory.proofs.Laws.Plus.{keeps-shorter, keeps-longer, grown-shorter}
 
 module _ (d : Design) (ends : Ends d) where
   -- ---- legal, and full
@@ -63,13 +63,6 @@ module _ (d : Design) (ends : Ends d) where
     only : (e : ℕ) → In (d .m) e → Is (k e) → e ≤ j
     grown : (e : ℕ) → In (d .m) e → e ≤ j → (Is (k e) ↔ Keeps d (below k e) e)
 
-  -- what is kept below e does not see a change at or above e
-  keeps-below : (k l : Set) (e : ℕ) → ((f : ℕ) → f < e → k f ≡ l f) → Keeps d (below k e) e → Keeps d (below l e) e
-  keeps-below k l e same =
-      legal-sub d (below l e with e) (below k e with e)
-      (with-mono (d .m) (below l e) (below k e) e
-      (λ f _ t. let h = below-lt l e f t in below-make k e f (same f h ∙ below-in l e f t) h))
-
   -- the edge after j is decided
   grow-one : (j : ℕ) (k : Set) → suc j ≤ d .m → GrownTo j k → (b : Bool) → (Is b → Legal d (k with suc j)) → (¬ (Is b) → ¬ (Legal d (k with suc j)))
       → Legal d (put k (suc j) b) → GrownTo (suc j) (put k (suc j) b)
@@ -86,8 +79,8 @@ module _ (d : Design) (ends : Ends d) where
       old : (e : ℕ) → In (d .m) e → e ≤ j → e ≢ suc j → Is (put k (suc j) b e) ↔ Keeps d (below (put k (suc j) b) e) e
       old e h le ne =
           let r = g .grown e h le in (
-            (λ t. keeps-below k (put k (suc j) b) e (λ f hf. same f (omega arith)) (r .0 (same e (omega arith) ∙ t))),
-            (λ p. sym (same e (omega arith)) ∙ r .1 (keeps-below (put k (suc j) b) k e (λ f hf. sym (same f (omega arith))) p)),
+            (λ t. keeps-same d k (put k (suc j) b) e (λ f _ hf. same f (omega arith)) (r .0 (same e (omega arith) ∙ t))),
+            (λ p. sym (same e (omega arith)) ∙ r .1 (keeps-same d (put k (suc j) b) k e (λ f _ hf. sym (same f (omega arith))) p)),
           )
 
       whole : Within (d .m) (k with suc j) (below k (suc j) with suc j)
@@ -96,7 +89,7 @@ module _ (d : Design) (ends : Ends d) where
       new : Is (put k (suc j) b (suc j)) ↔ Keeps d (below (put k (suc j) b) (suc j)) (suc j)
       new = (
         (λ t.
-            keeps-below k (put k (suc j) b) (suc j) same
+            keeps-same d k (put k (suc j) b) (suc j) (λ f _ h. same f h)
             (legal-sub d (below k (suc j) with suc j) (k with suc j) (with-mono (d .m) (below k (suc j)) k (suc j) (λ f _ i. below-in k (suc j) f i)) (if (sym (put-same k (suc j) b) ∙ t)))),
         (λ p.
             put-same k (suc j) b
@@ -104,7 +97,7 @@ module _ (d : Design) (ends : Ends d) where
             (λ f.
             absurd
             (not f
-            (legal-sub d (k with suc j) (below k (suc j) with suc j) whole (keeps-below (put k (suc j) b) k (suc j) (λ f h. sym (same f h)) p))))),
+            (legal-sub d (k with suc j) (below k (suc j) with suc j) whole (keeps-same d (put k (suc j) b) k (suc j) (λ f _ h. sym (same f h)) p))))),
       )
 
   grow-to : (j : ℕ) → j ≤ d .m → (k : Set) × GrownTo j k
@@ -130,30 +123,51 @@ module _ (d : Design) (ends : Ends d) where
 
 -- ---- one edge more
 
-module _ (d : Design) (u v colour : ℕ) (k l : Set) (gk : Grown d k) (gl : Grown (plus d u v colour) l) where
-  -- the old edges are kept as before
-  pub old-kept : Agree (d .m) k l
-  old-kept = grown-determined d k l gk (grown-shorter d u v colour l gl)
-
-  whole-with : (s t : Set) → Agree (d .m) s t → Within (suc (d .m)) (s with suc (d .m)) (below t (suc (d .m)) with suc (d .m))
-  whole-with s t f e h i =
+-- a set and the edges below m + 1 of one that agrees with it, each with the edge m + 1
+module _ (d : Design) (s t : Set) (f : Agree (d .m) s t) where
+  whole-with : Within (suc (d .m)) (s with suc (d .m)) (below t (suc (d .m)) with suc (d .m))
+  whole-with e h i =
       ⊎-elim (λ q. subst (λ (z : ℕ). Is ((below t (suc (d .m)) with suc (d .m)) z)) (sym q) (with-self (below t (suc (d .m))) (suc (d .m))))
       (λ o.
       in-split (d .m) e h (λ r. with-old (below t (suc (d .m))) (suc (d .m)) e (below-make t (suc (d .m)) e (sym (f e r) ∙ o) (omega arith)))
       (λ q. subst (λ (z : ℕ). Is ((below t (suc (d .m)) with suc (d .m)) z)) (sym q) (with-self (below t (suc (d .m))) (suc (d .m)))))
       (with-elim s (suc (d .m)) e i)
 
-  below-whole : (s t : Set) → Agree (d .m) s t → Within (suc (d .m)) (below t (suc (d .m)) with suc (d .m)) (s with suc (d .m))
-  below-whole s t f e h i =
-      ⊎-elim (λ q. subst (λ (z : ℕ). Is ((s with suc (d .m)) z)) (sym q) (with-self s (suc (d .m))))
-      (λ o. let lt = below-lt t (suc (d .m)) e o in with-old s (suc (d .m)) e (f e (omega arith) ∙ below-in t (suc (d .m)) e o))
-      (with-elim (below t (suc (d .m))) (suc (d .m)) e i)
+  below-whole : Within (suc (d .m)) (below t (suc (d .m)) with suc (d .m)) (s with suc (d .m))
+  below-whole e h i =
+      in-split (d .m) e h
+      (λ r.
+      ⊎-elim (λ q. absurd (omega (arith, q, r .high))) (λ o. with-old s (suc (d .m)) e (f e r ∙ below-in t (suc (d .m)) e o))
+      (with-elim (below t (suc (d .m))) (suc (d .m)) e i))
+      (λ q. subst (λ (z : ℕ). Is ((s with suc (d .m)) z)) (sym q) (with-self s (suc (d .m))))
 
-  -- the new one is kept exactly when it may be
-  pub new-kept : Is (l (suc (d .m))) ↔ Keeps (plus d u v colour) k (suc (d .m))
+module _ (d : Design) (u v colour : ℕ) (k l : Set) (gk : Grown d k) where
+  -- the kept set of the longer design: the old edges as before, and the new one exactly when it may be kept
+  pub grown-longer : Agree (d .m) k l → (Is (l (suc (d .m))) ↔ Keeps (plus d u v colour) k (suc (d .m))) → Grown (plus d u v colour) l
   unfolding plus
-  new-kept =
-      let r = gl (suc (d .m)) (omega arith) in (
-        (λ t. legal-sub (plus d u v colour) (k with suc (d .m)) (below l (suc (d .m)) with suc (d .m)) (whole-with k l old-kept) (r .0 t)),
-        (λ p. r .1 (legal-sub (plus d u v colour) (below l (suc (d .m)) with suc (d .m)) (k with suc (d .m)) (below-whole k l old-kept) p)),
-      )
+  grown-longer same new e h =
+      in-split (d .m) e h
+      (λ r.
+      let old = gk e r in (
+        (λ t. keeps-longer d u v colour l e r (keeps-same d k l e (λ f hf _. same f hf) (old .0 (same e r ∙ t)))),
+        (λ p. sym (same e r) ∙ old .1 (keeps-same d l k e (λ f hf _. sym (same f hf)) (keeps-shorter d u v colour l e r p))),
+      ))
+      (λ q.
+      subst (λ (z : ℕ). Is (l z) ↔ Keeps (plus d u v colour) (below l z) z) (sym q) (
+        (λ t. legal-sub (plus d u v colour) (below l (suc (d .m)) with suc (d .m)) (k with suc (d .m)) (below-whole d k l same) (new .0 t)),
+        (λ p. new .1 (legal-sub (plus d u v colour) (k with suc (d .m)) (below l (suc (d .m)) with suc (d .m)) (whole-with d k l same) p)),
+      ))
+
+  module _ (gl : Grown (plus d u v colour) l) where
+    -- the old edges are kept as before
+    pub old-kept : Agree (d .m) k l
+    old-kept = grown-determined d k l gk (grown-shorter d u v colour l gl)
+
+    -- the new one is kept exactly when it may be
+    pub new-kept : Is (l (suc (d .m))) ↔ Keeps (plus d u v colour) k (suc (d .m))
+    unfolding plus
+    new-kept =
+        let r = gl (suc (d .m)) (omega arith) in (
+          (λ t. legal-sub (plus d u v colour) (k with suc (d .m)) (below l (suc (d .m)) with suc (d .m)) (whole-with d k l old-kept) (r .0 t)),
+          (λ p. r .1 (legal-sub (plus d u v colour) (below l (suc (d .m)) with suc (d .m)) (k with suc (d .m)) (below-whole d k l old-kept) p)),
+        )

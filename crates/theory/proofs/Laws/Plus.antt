@@ -89,10 +89,10 @@ module _ (d : Design) (u v colour : ℕ) where
   legal-longer s t f = legal-carried (plus d u v colour) d s t (λ i. i) (longer s t f)
 
   -- an old edge is kept in the one as in the other
-  keeps-shorter : (k : Set) (e : ℕ) → In (d .m) e → Keeps (plus d u v colour) (below k e) e → Keeps d (below k e) e
+  pub keeps-shorter : (k : Set) (e : ℕ) → In (d .m) e → Keeps (plus d u v colour) (below k e) e → Keeps d (below k e) e
   keeps-shorter k e h = legal-shorter (below k e with e) (below k e with e) (λ i _ t. t)
 
-  keeps-longer : (k : Set) (e : ℕ) → In (d .m) e → Keeps d (below k e) e → Keeps (plus d u v colour) (below k e) e
+  pub keeps-longer : (k : Set) (e : ℕ) → In (d .m) e → Keeps d (below k e) e → Keeps (plus d u v colour) (below k e) e
   keeps-longer k e h =
       legal-longer (below k e with e) (below k e with e)
       (λ i hi t.

@@ -1,15 +1,17 @@
--- A sound book: the ends of its edges are bodies, its forests are an arrangement, so its kept edges are legal.
+-- A sound book: the ends of its edges are bodies, its forests are an arrangement, so its kept edges are legal. And the other way: a book
+-- whose forests are an arrangement is sound, if its head and its edges' ends and colours are right.
 -- Assumes nothing.
-use mathlib.Core.Path.{_≡_, subst}
+use mathlib.Core.Path.{_≡_, refl, subst}
+use mathlib.Core.Logic.{_≢_}
 use Prim.Native.Nat.{ℕ, zero, suc, _≤_}
 use native.Mathlib.Omega.{arith}
 use Rattle.rule.specs.declared.Book.{Book}
 use Rattle.rule.specs.Sets.{Is, In, below, at}
-use Rattle.rule.specs.Legal.{Ends, Legal}
-use Rattle.rule.specs.Forests.{Chain, inForest, NoneCloses, Arranged}
-use Rattle.rule.specs.Books.{designOf, forestOf, keptOf, HeadRule, EdgeRule, Obeys, Sound}
-use Rattle.rule.proofs.Loops.{none-closes-loopless}
-use Rattle.theory.proofs.Legal.Kept.{forest-is}
+use Rattle.rule.specs.Legal.{Design, Ends, k, Legal}
+use Rattle.rule.specs.Forests.{Chain, inForest, Permitted, NoneCloses, Arranged}
+use Rattle.rule.specs.Books.{designOf, forestOf, keptOf, ColourRange, HeadRule, EdgeRule, Obeys, Sound}
+use Rattle.rule.proofs.Loops.{none-closes-loopless, loopless-none-closes}
+use Rattle.theory.proofs.Legal.Kept.{forest-make, forest-is, limit-most}
 use Rattle.theory.proofs.Legal.Forests.{forests-legal}
 
 module _ (B : Book) (sound : Sound B) where
@@ -44,3 +46,34 @@ module _ (B : Book) (sound : Sound B) where
 
   pub sound-legal : Legal (designOf B) (keptOf B)
   sound-legal = forests-legal (designOf B) sound-ends (forestOf B) sound-arranged
+
+-- a forest number that is permitted, and is not 0, is one of 1 to k
+permitted-range : (d : Design) (forest : ℕ → ℕ) (e : ℕ) → Permitted d forest e → 1 ≤ forest e → In (k d) (forest e)
+unfolding Permitted
+permitted-range d forest e p low = omega (arith, limit-most d e)
+
+-- what an edge must have apart from its forest
+pub record EndsAndColour (B : Book) (e : ℕ) : Type 0 where
+  pub one : In (B .n) (at (B .ones) e)
+  pub other : In (B .n) (at (B .others) e)
+  pub different : at (B .ones) e ≢ at (B .others) e
+  pub colour : ColourRange (at (B .colours) e)
+
+pub arranged-sound : (B : Book) → HeadRule B → ((e : ℕ) → In (B .count) e → EndsAndColour B e) → Arranged (designOf B) (forestOf B) → Sound B
+unfolding Sound Obeys NoneCloses designOf
+arranged-sound B head edges arr zero l = head
+arranged-sound B head edges arr (suc i) l =
+    let h : In (B .count) (suc i) = omega arith in
+    let r = edges (suc i) h in
+    let permitted : Permitted (designOf B) (forestOf B) (suc i) = arr .permitted (suc i) h in
+    record {
+      one = r .one;
+      other = r .other;
+      different = r .different;
+      colour = r .colour;
+      permitted = permitted;
+      closes-none =
+          λ low.
+          loopless-none-closes (designOf B) (inForest (forestOf B) (forestOf B (suc i)))
+          (arr .loopless (forestOf B (suc i)) (permitted-range (designOf B) (forestOf B) (suc i) permitted low)) (suc i) h (forest-make (forestOf B) (forestOf B (suc i)) (suc i) refl);
+    }

@@ -1,0 +1,4 @@
+pub mod After
+pub mod Offers
+pub mod Runs
+pub mod Undo

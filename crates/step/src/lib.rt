@@ -1,0 +1,1 @@
+// Offer and question: the step. Not yet.
