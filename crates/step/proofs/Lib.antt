@@ -1,2 +1,2 @@
-pub mod After
-pub mod Offers
+pub mod Runs
+pub mod Undo

@@ -12,6 +12,14 @@ pub fn one(t: usize) -> u64
     1u64 << t
 }
 
+// The word has bit t.
+pub fn has(word: u64, t: usize) -> bool
+    requires { ⌜ t < 64 ⌝ }
+    ensures { λ r. ⌜ r ≡ bit word t ⌝ }
+{
+    (word >> t) % 2 == 1
+}
+
 // The lowest bit of a word that is not 0.
 pub fn lowest(word: u64) -> usize
     requires { ⌜ (word ≡ 0 → ⊥) ⌝ }

@@ -14,9 +14,9 @@ use Rattle.rule.specs.Legal.{Design}
 use Rattle.rule.specs.Forests.{Loopless}
 use Rattle.rule.proofs.Tests.{cases, and-make, and-l, and-r, or-l, or-r, or-elim, isnt-make, isnt-not, le-is, le-of, by-eq, with-self, with-old, with-elim, without-old, without-ne, without-make}
 use Rattle.rule.proofs.Counting.{Within}
-use Rattle.theory.specs.Joined.{spans}
+use Rattle.theory.specs.Joined.{joined, spans}
 use Rattle.theory.proofs.Joined.Chains.{joined-chain, chain-joined}
-use Rattle.theory.proofs.Joined.Laws.{spans-edge, spans-mono, spans-split, turned, back-in}
+use Rattle.theory.proofs.Joined.Laws.{joined-mono, joined-split, spans-edge, spans-mono, spans-split, turned-at, turned, back-in}
 
 -- no edge of s has its ends joined by the others
 unfoldable pub Acyclic : Design → Set → Type 0
@@ -66,19 +66,25 @@ module _ (d : Design) where
 
   -- ---- one path
 
-  -- where the ends of x stay joined without z, and without y, they stay joined without both
-  pub both-deleted : (s : Set) (x y z : ℕ) → In (d .m) z → Is (s z) → Acyclic d s → Is (spans d (s without z) x) → Is (spans d (s without y) x)
-      → Is (spans d (s without z without y) x)
+  -- where p and q stay joined without z, and without y, they stay joined without both
+  pub both-deleted-at : (s : Set) (p q y z : ℕ) → In (d .m) z → Is (s z) → Acyclic d s → Is (joined d (s without z) p q)
+      → Is (joined d (s without y) p q) → Is (joined d (s without z without y) p q)
   unfolding Acyclic
-  both-deleted s x y z h i ac p q =
+  both-deleted-at s p q y z h i ac a b =
       ⊎-elim (λ k. k)
-      (λ o. absurd (ac z h i (turned d (s without z without y) (s without z) z x (λ e _ k. without-old (s without z) y e k) o p)))
-      (spans-split d (s without z without y) z x (spans-mono d (s without y) (s without z without y with z) back x q))
+      (λ o. absurd (ac z h i (turned-at d (s without z without y) (s without z) z p q (λ e _ k. without-old (s without z) y e k) o a)))
+      (joined-split d (s without z without y) z p q (joined-mono d (s without y) (s without z without y with z) back p q b))
     where
       back : Within (d .m) (s without y) (s without z without y with z)
       back e h k =
           by-eq e z (λ r. subst (λ (g : ℕ). Is ((s without z without y with z) g)) (sym r) (with-self (s without z without y) z))
           (λ ne. with-old (s without z without y) z e (without-make (s without z) y e (without-make s z e (without-old s y e k) ne) (without-ne s y e k)))
+
+  -- the same of the ends of x
+  pub both-deleted : (s : Set) (x y z : ℕ) → In (d .m) z → Is (s z) → Acyclic d s → Is (spans d (s without z) x) → Is (spans d (s without y) x)
+      → Is (spans d (s without z without y) x)
+  unfolding spans
+  both-deleted s x y z h i ac p q = both-deleted-at s (d .one x) (d .other x) y z h i ac p q
 
   -- ---- a set that holds the whole path
 

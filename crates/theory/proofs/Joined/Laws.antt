@@ -100,16 +100,21 @@ module _ (d : Design) where
   unfolding spans
   spans-split s e f p = joined-split s e (d .one f) (d .other f) p
 
-  -- where f's ends are joined by way of e, and are joined anyhow, e's ends are joined by way of f
-  pub turned : (s t : Set) (e f : ℕ) → Within (d .m) s t → ByWay s e (d .one f) (d .other f) → Is (spans d t f) → Is (spans d t e)
+  -- where x and y are joined by way of e, and are joined anyhow, e's ends are joined
+  pub turned-at : (s t : Set) (e x y : ℕ) → Within (d .m) s t → ByWay s e x y → Is (joined d t x y) → Is (spans d t e)
   unfolding spans
-  turned s t e f w o p =
+  turned-at s t e x y w o p =
       let up : (x y : ℕ) → Is (joined d s x y) → Is (joined d t x y) = joined-mono s t w in
       let tr = joined-trans t in
       let sy = joined-sym t in
       ⊎-elim
       (λ z. tr _ _ _ (sy _ _ (up _ _ (z .0))) (tr _ _ _ p (sy _ _ (up _ _ (z .1)))))
       (λ z. tr _ _ _ (up _ _ (z .1)) (tr _ _ _ (sy _ _ p) (up _ _ (z .0)))) o
+
+  -- so where f's ends are joined by way of e, e's are by way of f
+  pub turned : (s t : Set) (e f : ℕ) → Within (d .m) s t → ByWay s e (d .one f) (d .other f) → Is (spans d t f) → Is (spans d t e)
+  unfolding spans
+  turned s t e f w o p = turned-at s t e (d .one f) (d .other f) w o p
 
   -- ---- an edge swapped for one on its path
 

@@ -1,0 +1,52 @@
+-- `moving::exchange`: the swap in the tables, and the forest of y stored for x.
+use borrow.Author.Needs.{needs}
+use Rattle.moving.proofs.Walking.{exchange-done}
+use Rattle.moving.proofs.exchange.Statement.{statement}
+use Rattle.moving.proofs.exchange.Tie as tie
+
+read-requires : tie.Need-read-requires
+read-requires c κs = search needs
+
+read-requires-2 : tie.Need-read-requires-2
+read-requires-2 c κs = search needs
+
+read-requires-3 : tie.Need-read-requires-3
+read-requires-3 c κs = search needs
+
+cast-swap : tie.Need-cast-swap
+cast-swap c = search needs
+
+cast-swap-2 : tie.Need-cast-swap-2
+cast-swap-2 c = search needs
+
+cast-swap-3 : tie.Need-cast-swap-3
+cast-swap-3 c = search needs
+
+swap-requires : tie.Need-swap-requires
+swap-requires c κs = search needs
+
+store-requires : tie.Need-store-requires
+store-requires c κs = search needs
+
+returns : tie.Need-returns
+returns c =
+    let swap = c .before .before in
+    let third = swap .before .before .before in
+    let start = third .before .before .before .before in
+    exchange-done (start .args .x) (start .args .y) (start .args .ones .now) (start .args .others .now) (start .args .forests .now) (start .args .way .now)
+    (start .args .edge .now) _ _ _ (third .before .before .read .result) (third .before .read2 .result) (third .read3 .result)
+    (third .before .before .read .ensures) (third .before .read2 .ensures) (third .read3 .ensures) (swap .swap .ensures) (c .store .ensures)
+
+pub exchange-spec : {M : Type 1} → statement M
+exchange-spec =
+    tie.close
+    (tie.spec
+    read-requires
+    read-requires-2
+    read-requires-3
+    cast-swap
+    cast-swap-2
+    cast-swap-3
+    swap-requires
+    store-requires
+    returns)

@@ -1,0 +1,10 @@
+pub mod Between
+pub mod Larger
+pub mod Exchanged
+pub mod Tells
+pub mod Seats
+pub mod Changes
+pub mod Places
+pub mod Added
+pub mod Swapped
+pub mod Few

@@ -1,0 +1,19 @@
+-- Books that came from opening and any run of offers, refused ones among them; and what a book implies.
+use Prim.Native.Nat.{ℕ}
+use mathlib.Core.List.{List}
+use Rattle.rule.specs.declared.Book.{Book}
+use Rattle.rule.specs.declared.Answer.{Answer}
+use Rattle.rule.specs.declared.Done.{Done}
+use Rattle.rule.specs.Books.{designOf, keptOf}
+use Rattle.rule.specs.Calls.{Open, Offer}
+use Rattle.theory.specs.Order.{ImpliedBy}
+
+-- the book was opened and then offered edges, whatever was answered
+pub data Run : Book → Type 0 where
+  opened : {book : Book} (a b n : ℕ) → Open a b n book Done.Fine → Run book
+  offered : {before after : Book} (u v colour : ℕ) (list listed : List ℕ) (answer : Answer) → Run before
+      → Offer before after u v colour list listed answer → Run after
+
+-- an edge between u and v is implied by the book: with it the kept edges are not legal
+abbrev pub BookImplies : Book → (u v colour : ℕ) → Type 0
+BookImplies B u v colour = ImpliedBy (designOf B) (keptOf B) u v colour
