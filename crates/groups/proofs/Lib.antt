@@ -5,3 +5,4 @@ pub mod Reading
 pub mod Shrinking
 pub mod Crowds
 pub mod Listing
+pub mod Grouping

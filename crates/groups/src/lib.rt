@@ -8,11 +8,17 @@ ghost use Prim.Native.Nat.{ℕ, suc, _-_, _≤_, _<_};
 ghost use lib.ListN.{length};
 ghost use mathlib.Core.Bool.{cond};
 ghost use Rattle.rule.specs.Sets.{In, _=?_, at};
+ghost use Rattle.rule.specs.Books.{Sound};
+ghost use Rattle.rule.specs.Reasons.{groupsRoom};
+ghost use Rattle.rule.specs.Calls.{Grouped};
 ghost use Rattle.words.specs.Bits.{bit};
 ghost use Rattle.labels.specs.Rows.{Long};
 ghost use Rattle.groups.specs.Lent.{Given};
 ghost use Rattle.groups.specs.Passes.{Seated, Planted, sameLabels, stays, Thinned, Shrunk};
 ghost use Rattle.groups.specs.Classes.{together, Listed, Classes};
+
+use rule::Book;
+use rule::Done;
 
 fn wide(x: u8) -> usize
     ensures { λ r. ⌜ r ≡ x ⌝ }
@@ -176,11 +182,11 @@ pub fn leaders(root: &[u8; 384], who: &[u64; 384], j: usize, n: usize, list: &mu
 }
 
 // For each of the bodies 1 to n the smallest body of its class.
-pub fn classes(
-    ones: &[u8; 512],
-    others: &[u8; 512],
-    colours: &[u8; 512],
-    forests: &[u8; 512],
+pub fn classes<'a>(
+    ones: &'a [u8; 512],
+    others: &'a [u8; 512],
+    colours: &'a [u8; 512],
+    forests: &'a [u8; 512],
     red: usize,
     black: usize,
     j: usize,
@@ -208,4 +214,26 @@ pub fn classes(
         &mut who,
     );
     leaders(&root, &who, j, n, list);
+}
+
+// The group list of a sound book.
+fn list_groups(book: Book, list: &mut [u8])
+    requires { ⌜ Sound book × (groupsRoom ≤ length (now list)) ⌝ }
+    ensures { λ r. ⌜ Grouped book (now (list .entry)) (now (list .exit)) Done.Fine ⌝ }
+{
+    let k = wide(book.a) + wide(book.b);
+    let n = wide(book.n);
+    let count = book.count as usize;
+    classes(
+        &book.ones,
+        &book.others,
+        &book.colours,
+        &book.forests,
+        k,
+        k,
+        k,
+        n,
+        count,
+        list,
+    );
 }
