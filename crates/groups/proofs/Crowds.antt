@@ -11,13 +11,13 @@ use native.Mathlib.Omega.{arith}
 use lib.Bits.{bitAnd}
 use lib.ListN.{getD}
 use Rattle.rule.specs.Sets.{Is, _and_, In}
-use Rattle.theory.specs.Numbers.{every, smallest}
-use Rattle.theory.proofs.Numbers.Smallest.{smallest-is, smallest-determined, every-make}
+use Rattle.theory.specs.Numbers.{every}
+use Rattle.theory.proofs.Numbers.Smallest.{every-make}
 use Rattle.words.specs.Bits.{bit, Lowest}
 use Rattle.words.proofs.Bits.{bit-zero, bit-and, bit-all}
 use Rattle.tables.specs.Tables.{spot, label, crowd}
 use Rattle.groups.specs.Passes.{Seated}
-use Rattle.groups.specs.Classes.{together}
+use Rattle.groups.specs.Classes.{together, Leader}
 
 -- the word has the bodies that are with v in each of the forests 1 to i
 abbrev pub With : (root who : List ℕ) (v i word : ℕ) → Type 0
@@ -52,15 +52,13 @@ module _ (root who : List ℕ) (s : Seated root who) (j n v word : ℕ) (few : j
   pub class-not-empty : word ≢ 0
   class-not-empty z = false≢true (sym (ap (λ (x : ℕ). bit x (v - 1)) z ∙ bit-zero (v - 1)) ∙ w v (omega arith) ∙ own)
 
-  pub class-leads : (t : ℕ) → Lowest word t → t + 1 ≡ smallest (together root who j v) n
+  pub class-leads : (t : ℕ) → Lowest word t → Leader (together root who j v) n (t + 1)
   class-leads t low =
-      smallest-determined (together root who j v) n (t + 1) (smallest (together root who j v) n)
-      (record {
-        range = omega (arith, least v hv own);
-        is-in = sym (w (t + 1) (omega arith)) ∙ subst (λ (z : ℕ). Is (bit word z)) (omega arith) (low .is-set);
-        least = least;
-      })
-      (smallest-is (together root who j v) n v hv own)
+      record {
+        body = omega (arith, least v hv own);
+        is-near = sym (w (t + 1) (omega arith)) ∙ subst (λ (z : ℕ). Is (bit word z)) (omega arith) (low .is-set);
+        smallest = least;
+      }
     where
       least : (u : ℕ) → In n u → Is (together root who j v u) → t + 1 ≤ u
       least u h near = let none : ¬ (u - 1 < t) = λ l. low .lowest (u - 1) l (w u (omega arith) ∙ near) in omega arith

@@ -17,12 +17,10 @@ use Rattle.rule.specs.Figures.{Leads, Groups}
 use Rattle.rule.specs.Books.{designOf, forestOf, Sound}
 use Rattle.rule.specs.Calls.{Grouped}
 use Rattle.rule.proofs.Places.{at-suc}
-use Rattle.theory.specs.Numbers.{smallest}
 use Rattle.theory.specs.Closed.{greatest}
 use Rattle.theory.specs.Groups.{joinedInAll, rigidCore}
-use Rattle.theory.proofs.Numbers.Smallest.{smallest-is}
 use Rattle.theory.proofs.Legal.Sound.{sound-head, sound-ends, sound-arranged}
-use Rattle.theory.proofs.Groups.Share.{group-iff, in-all-refl}
+use Rattle.theory.proofs.Groups.Share.{group-iff}
 use Rattle.groups.specs.Lent.{Lent, Coloured, Given, limits}
 use Rattle.groups.specs.Classes.{Listed, Classes}
 
@@ -51,13 +49,12 @@ module _ (d : Design) (ends : Ends d) (forest : ℕ → ℕ) (arr : Arranged d f
     (l : Listed (joinedInAll d forest (rigidCore d forest) (k d)) (d .n) before after) where
   leads : (u : ℕ) → In (d .n) u → Leads d (keptIn d forest) u (at (take (d .n) after) u)
   leads u h =
-      let near = joinedInAll d forest (rigidCore d forest) (k d) u in
-      let first = smallest-is near (d .n) u h (in-all-refl d forest (rigidCore d forest) (k d) u) in
-      subst (Leads d (keptIn d forest) u) (sym (at-take (d .n) u after h ∙ l .leads u h))
+      let lead = l .leads u h in
+      subst (Leads d (keptIn d forest) u) (sym (at-take (d .n) u after h))
       (record {
-        body = first .range;
-        in-group = group-iff d ends forest arr u (smallest near (d .n)) h (first .range) some .1 (first .is-in);
-        smallest = λ v hv g. first .least v hv (group-iff d ends forest arr u v h hv some .0 g);
+        body = lead .body;
+        in-group = group-iff d ends forest arr u (at after u) h (lead .body) some .1 (lead .is-near);
+        smallest = λ v hv g. lead .smallest v hv (group-iff d ends forest arr u v h hv some .0 g);
       })
 
   pub listed-groups : Groups d (keptIn d forest) (take (d .n) after)

@@ -6,3 +6,4 @@ pub mod Shrinking
 pub mod Crowds
 pub mod Listing
 pub mod Grouping
+pub mod Determined

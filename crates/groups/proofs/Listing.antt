@@ -10,14 +10,13 @@ use lib.Seq.{drop-set-lt}
 use Rattle.rule.specs.Sets.{Set, In, put, at}
 use Rattle.rule.proofs.Tests.{in-split, put-same, put-other}
 use Rattle.rule.proofs.Places.{at-set}
-use Rattle.theory.specs.Numbers.{smallest}
-use Rattle.groups.specs.Classes.{Listed}
+use Rattle.groups.specs.Classes.{Leader, Listed}
 
 -- the first v places are filled
 pub record Listing (near : ℕ → Set) (n : ℕ) (before now : List ℕ) (v : ℕ) : Type 0 where
   pub within : v ≤ n
   pub as-long : length now ≡ length before
-  pub leads : (u : ℕ) → In v u → at now u ≡ smallest (near u) n
+  pub leads : (u : ℕ) → In v u → Leader (near u) n (at now u)
   pub past : drop n now ≡ drop n before
 
 module _ (near : ℕ → Set) (n : ℕ) (before : List ℕ) where
@@ -28,7 +27,7 @@ module _ (near : ℕ → Set) (n : ℕ) (before : List ℕ) where
   listing-all now v l k =
       record { as-long = k .as-long; leads = λ u h. k .leads u (omega arith); past = k .past }
 
-  pub listing-more : (now : List ℕ) (v lead : ℕ) → v < n → n ≤ length before → lead ≡ smallest (near (suc v)) n → Listing near n before now v
+  pub listing-more : (now : List ℕ) (v lead : ℕ) → v < n → n ≤ length before → Leader (near (v + 1)) n lead → Listing near n before now v
       → Listing near n before (set now v lead) (v + 1)
   listing-more now v lead l room is k =
       subst (Listing near n before (set now v lead)) (sym (add-one v))
@@ -38,10 +37,11 @@ module _ (near : ℕ → Set) (n : ℕ) (before : List ℕ) where
         leads =
             λ u h.
             in-split v u h
-            (λ r. ap (λ (f : ℕ → ℕ). f u) stored ∙ put-other (at now) (suc v) lead u (omega arith) ∙ k .leads u r)
+            (λ r. subst (Leader (near u) n) (sym (ap (λ (f : ℕ → ℕ). f u) stored ∙ put-other (at now) (suc v) lead u (omega arith))) (k .leads u r))
             (λ q.
-            subst (λ (z : ℕ). at (set now v lead) z ≡ smallest (near z) n) (sym q)
-            (ap (λ (f : ℕ → ℕ). f (suc v)) stored ∙ put-same (at now) (suc v) lead ∙ is));
+            subst (λ (z : ℕ). Leader (near z) n (at (set now v lead) z)) (add-one v ∙ sym q)
+            (subst (Leader (near (v + 1)) n)
+            (sym (ap (λ (f : ℕ → ℕ). f (v + 1)) stored ∙ ap (put (at now) (suc v) lead) (add-one v) ∙ put-same (at now) (suc v) lead)) is));
         past = drop-set-lt n now v lead l ∙ k .past;
       })
     where

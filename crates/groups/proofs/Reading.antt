@@ -3,14 +3,14 @@
 use mathlib.Core.Path.{_≡_, refl, sym, ap, ap₂, _∙_, subst}
 use mathlib.Core.Bool.{Bool, true, false, cond}
 use mathlib.Core.List.{List}
-use Prim.Native.Nat.{ℕ, zero, suc, _-_, _≤_, _<_}
+use Prim.Native.Nat.{ℕ, suc, _-_, _≤_}
 use native.Mathlib.Omega.{arith}
 use lib.ListN.{getD}
 use Rattle.rule.specs.Sets.{Is, _=?_, Set, In, at}
 use Rattle.rule.specs.Legal.{Design, Ends}
 use Rattle.rule.specs.Forests.{inForest}
-use Rattle.rule.proofs.Tests.{same-test, and-make, in-one, in-last}
-use Rattle.theory.specs.Numbers.{or-else, smallest, every}
+use Rattle.rule.proofs.Tests.{same-test, and-make}
+use Rattle.theory.specs.Numbers.{every}
 use Rattle.theory.specs.Joined.{joined, spans}
 use Rattle.theory.specs.Closed.{standing}
 use Rattle.theory.specs.Groups.{joinedInAll}
@@ -26,12 +26,6 @@ use Rattle.groups.proofs.Thinning.{held}
 every-same : (p q : Set) (j : ℕ) → ((i : ℕ) → In j i → p i ≡ q i) → every p j ≡ every q j
 every-same p q j f =
     same-test _ _ (λ h. every-make q j (λ i r. sym (f i r) ∙ every-at p j i r h)) (λ h. every-make p j (λ i r. f i r ∙ every-at q j i r h))
-
-smallest-same : (p q : Set) (j : ℕ) → ((i : ℕ) → In j i → p i ≡ q i) → smallest p j ≡ smallest q j
-unfolding smallest
-smallest-same p q zero f = refl
-smallest-same p q (suc j) f =
-    ap₂ (λ (x : ℕ) (t : Bool). or-else x (cond t (suc j) 0)) (smallest-same p q j (λ i r. f i (in-one j i r))) (f (suc j) (in-last j))
 
 -- either of two numbers, as a test says
 pub either-most : (t : Bool) (x y most : ℕ) → x ≤ most → y ≤ most → cond t x y ≤ most
@@ -107,8 +101,14 @@ listed-joined d forest c root who labels j n few fits before after l =
       as-long = l .as-long;
       leads =
           λ v h.
-          l .leads v h
-          ∙ smallest-same (together root who j v) (joinedInAll d forest c j v) n
-          (λ u r. together-joined d forest c root who labels j few v u (omega arith) (omega arith));
+          let lead = l .leads v h in
+          record {
+            body = lead .body;
+            is-near = sym (same v (at after v) h (lead .body)) ∙ lead .is-near;
+            smallest = λ u r t. lead .smallest u r (same v u h r ∙ t);
+          };
       past = l .past;
     }
+  where
+    same : (v u : ℕ) → In n v → In n u → together root who j v u ≡ joinedInAll d forest c j v u
+    same v u h r = together-joined d forest c root who labels j few v u (omega arith) (omega arith)

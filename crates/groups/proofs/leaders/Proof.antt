@@ -1,10 +1,7 @@
 -- `groups::leaders`: the list is filled body by body (Listing.antt) with the lowest bit of the class (Crowds.antt).
 use borrow.Author.Needs.{needs}
-use mathlib.Core.Path.{ap, _∙_}
-use Prim.Native.Nat.{ℕ, _+_, _-_}
-use native.Mathlib.Numerals.{add-one}
+use Prim.Native.Nat.{_+_, _-_}
 use native.Mathlib.Omega.{arith}
-use Rattle.theory.specs.Numbers.{smallest}
 use Rattle.groups.specs.Classes.{together}
 use Rattle.groups.proofs.Crowds.{class-not-empty, class-leads}
 use Rattle.groups.proofs.Listing.{Listing, listing-none, listing-more, listing-all}
@@ -59,8 +56,7 @@ loop-again c =
     let n = start .args .n in
     listing-more (together root who j) n (start .args .list .now) (loop .list) (loop .v) (c .lowest .result + 1) (omega arith) (start .pre .0 .1 .1)
     (class-leads root who (start .pre .1) j n (loop .v + 1) (c .before .class-of .result) (start .pre .0 .0) (start .pre .0 .1 .0) (omega arith)
-    (c .before .class-of .ensures) (c .lowest .result) (c .lowest .ensures)
-    ∙ ap (λ (z : ℕ). smallest (together root who j z) n) (add-one (loop .v)))
+    (c .before .class-of .ensures) (c .lowest .result) (c .lowest .ensures))
     (loop .inv)
 
 same-length : tie.Need-same-length Inv-loop μ-loop
