@@ -1,11 +1,11 @@
 -- One pass of deletion, edge by edge: of the first e edges those that do not stay are deleted, and the others are as they were. Then
 -- what a whole pass does to the number of edges that are left: as many fewer as were deleted, so where none was deleted all stay.
 -- Assumes nothing.
-use mathlib.Core.Path.{_≡_, refl, sym, ap, ap₂, _∙_, subst}
-use mathlib.Core.Logic.{⊎-elim, _≢_}
+use mathlib.Core.Path.{_≡_, refl, sym, ap, _∙_, subst}
+use mathlib.Core.Logic.{_≢_}
 use mathlib.Core.Bool.{Bool, true, false, cond}
 use mathlib.Core.List.{List}
-use Prim.Native.Nat.{ℕ, zero, suc, _+_, _≤_, _<_}
+use Prim.Native.Nat.{ℕ, suc, _+_, _≤_, _<_}
 use native.Mathlib.Numerals.{add-one}
 use native.Mathlib.Omega.{arith}
 use lib.ListN.{length, getD, set, length-set}
@@ -28,20 +28,20 @@ pub record Judged (stay : Set) (before now : List ℕ) (e gone : ℕ) : Type 0 w
   pub past : Thinned stay e before now gone
   pub rest : (i : ℕ) → e < i → at now i ≡ at before i
 
-module _ (stay : Set) (before : List ℕ) where
+module _ {stay : Set} {before : List ℕ} where
   pub judged-none : Judged stay before before 0 0
   unfolding count
   judged-none =
       record { past = record { as-long = refl; left = λ e h. absurd (omega arith); number = refl }; rest = λ i l. refl }
 
   -- no more edges go than are judged
-  pub judged-few : (now : List ℕ) (e gone : ℕ) → Judged stay before now e gone → gone ≤ e
-  judged-few now e gone j = omega (arith, j .past .number, count-le (going stay before) e)
+  pub judged-few : {now : List ℕ} {e gone : ℕ} → Judged stay before now e gone → gone ≤ e
+  judged-few {e = e} j = omega (arith, j .past .number, count-le (going stay before) e)
 
-  pub judged-all : (now : List ℕ) (e gone m : ℕ) → e ≤ m → m ≤ e → Judged stay before now e gone → Thinned stay m before now gone
-  judged-all now e gone m l g j = subst (λ (z : ℕ). Thinned stay z before now gone) (omega arith) (j .past)
+  pub judged-all : {now : List ℕ} {e gone m : ℕ} → e ≤ m → m ≤ e → Judged stay before now e gone → Thinned stay m before now gone
+  judged-all {now = now} {gone = gone} l g j = subst (λ (z : ℕ). Thinned stay z before now gone) (omega arith) (j .past)
 
-  module _ (now : List ℕ) (e gone : ℕ) (j : Judged stay before now e gone) where
+  module _ {now : List ℕ} {e gone : ℕ} (j : Judged stay before now e gone) where
     -- what the code reads of edge e + 1
     read : getD now e 0 ≡ at before (suc e)
     read = sym (at-suc now e) ∙ j .rest (suc e) (omega arith)
@@ -116,7 +116,7 @@ positive-if false x = same-test _ _ (λ h. absurd (omega (arith, lt-of 0 0 h))) 
 abbrev pub leftOver : ℕ → List ℕ → ℕ
 leftOver m list = count (λ e. 0 <? at list e) m
 
-module _ (stay : Set) (m : ℕ) (before after : List ℕ) (gone : ℕ) (t : Thinned stay m before after gone) where
+module _ {stay : Set} {m : ℕ} {before after : List ℕ} {gone : ℕ} (t : Thinned stay m before after gone) where
   pub thinned-fewer : leftOver m after + gone ≡ leftOver m before
   thinned-fewer =
       omega (

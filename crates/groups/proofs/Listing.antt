@@ -19,17 +19,17 @@ pub record Listing (near : ℕ → Set) (n : ℕ) (before now : List ℕ) (v : �
   pub leads : (u : ℕ) → In v u → Leader (near u) n (at now u)
   pub past : drop n now ≡ drop n before
 
-module _ (near : ℕ → Set) (n : ℕ) (before : List ℕ) where
+module _ {near : ℕ → Set} {n : ℕ} {before : List ℕ} where
   pub listing-none : Listing near n before before 0
   listing-none = record { within = omega arith; as-long = refl; leads = λ u h. absurd (omega arith); past = refl }
 
-  pub listing-all : (now : List ℕ) (v : ℕ) → n ≤ v → Listing near n before now v → Listed near n before now
-  listing-all now v l k =
+  pub listing-all : {now : List ℕ} {v : ℕ} → n ≤ v → Listing near n before now v → Listed near n before now
+  listing-all l k =
       record { as-long = k .as-long; leads = λ u h. k .leads u (omega arith); past = k .past }
 
-  pub listing-more : (now : List ℕ) (v lead : ℕ) → v < n → n ≤ length before → Leader (near (v + 1)) n lead → Listing near n before now v
+  pub listing-more : {now : List ℕ} {v lead : ℕ} → v < n → n ≤ length before → Leader (near (v + 1)) n lead → Listing near n before now v
       → Listing near n before (set now v lead) (v + 1)
-  listing-more now v lead l room is k =
+  listing-more {now} {v} {lead} l room is k =
       subst (Listing near n before (set now v lead)) (sym (add-one v))
       (record {
         within = omega arith;

@@ -4,7 +4,7 @@
 -- An edge that has no forest changes nothing. One that has a forest stands in two trees of it, since the forest has no loop; uniting
 -- them gives the labels of one edge more, and the other forests have no edge more.
 -- Assumes nothing.
-use mathlib.Core.Path.{_≡_, refl, sym, ap, _∙_, subst, subst₂}
+use mathlib.Core.Path.{_≡_, sym, ap, _∙_, subst, subst₂}
 use mathlib.Core.Logic.{⊎-elim, _≢_}
 use mathlib.Core.List.{List}
 use Prim.Native.Nat.{ℕ, suc, _+_, _≤_, _<_}
@@ -121,9 +121,15 @@ placed : (d : Design) (forest : ℕ → ℕ) → Arranged d forest → (e : ℕ)
 unfolding Permitted
 placed d forest arr e h ne = omega (arith, arr .permitted e h, limit-most d e)
 
-module _ (m : ℕ) (ones others forests : List ℕ) where
-  pub grows-none : (root who : List ℕ) → Begun root who → Grows m ones others forests root who 0
-  grows-none root who b =
+-- what the code reads of the edge at index e
+pub record Read (ones others forests : List ℕ) (e f u v : ℕ) : Type 0 where
+  pub forest : f ≡ getD forests e 0
+  pub one : u ≡ getD ones e 0
+  pub other : v ≡ getD others e 0
+
+module _ {m : ℕ} {ones others forests : List ℕ} where
+  pub grows-none : {root who : List ℕ} → Begun root who → Grows m ones others forests root who 0
+  grows-none {root} {who} b =
       record {
         within = omega arith;
         root-long = b .root-long;
@@ -131,63 +137,62 @@ module _ (m : ℕ) (ones others forests : List ℕ) where
         labels = λ d lent arr. growing-none d (at forests) root who b;
       }
 
-  pub grows-all : Given m ones others forests → (root who : List ℕ) (e : ℕ) → m ≤ e → Grows m ones others forests root who e
-      → Planted m ones others forests root who
-  grows-all given root who e l g =
-      record {
-        root-long = g .root-long;
-        who-long = g .who-long;
-        seated = labels-seated (given .design) _ root who (all (given .design) (given .lent) (given .arranged));
-        labels = all;
-      }
-    where
-      all : (d : Design) → Lent d m ones others → Arranged d (at forests) → (i : ℕ) → In 6 i → Labels d (inForest (at forests) i) i root who
-      all d lent arr =
-          growing-all d (at forests) root who
-          (subst (λ (z : ℕ). Growing d (at forests) z root who) (omega (arith, g .within, lent .edges)) (g .labels d lent arr))
+  module _ {root who : List ℕ} {e : ℕ} (g : Grows m ones others forests root who e) where
+    pub grows-all : Given m ones others forests → m ≤ e → Planted m ones others forests root who
+    grows-all given l =
+        record {
+          root-long = g .root-long;
+          who-long = g .who-long;
+          seated = labels-seated (given .design) _ root who (all (given .design) (given .lent) (given .arranged));
+          labels = all;
+        }
+      where
+        all : (d : Design) → Lent d m ones others → Arranged d (at forests) → (i : ℕ) → In 6 i → Labels d (inForest (at forests) i) i root who
+        all d lent arr =
+            growing-all d (at forests) root who
+            (subst (λ (z : ℕ). Growing d (at forests) z root who) (omega (arith, g .within, lent .edges)) (g .labels d lent arr))
 
-  module _ (root who : List ℕ) (e : ℕ) (less : e < m) (g : Grows m ones others forests root who e) where
-    -- the next edge, by its number and by its index
-    next : (root′ who′ : List ℕ) → Long root′ → Long who′
-        → ((d : Design) → Lent d m ones others → Arranged d (at forests) → Growing d (at forests) (suc e) root′ who′)
-        → Grows m ones others forests root′ who′ (e + 1)
-    next root′ who′ rl wl f =
-        subst (Grows m ones others forests root′ who′) (sym (add-one e)) (record { within = omega arith; root-long = rl; who-long = wl; labels = f })
+    module _ (less : e < m) where
+      -- the next edge, by its number and by its index
+      next : (root′ who′ : List ℕ) → Long root′ → Long who′
+          → ((d : Design) → Lent d m ones others → Arranged d (at forests) → Growing d (at forests) (suc e) root′ who′)
+          → Grows m ones others forests root′ who′ (e + 1)
+      next root′ who′ rl wl f =
+          subst (Grows m ones others forests root′ who′) (sym (add-one e)) (record { within = omega arith; root-long = rl; who-long = wl; labels = f })
 
-    pub grows-past : getD forests e 0 ≡ 0 → Grows m ones others forests root who (e + 1)
-    grows-past none =
-        next root who (g .root-long) (g .who-long)
-        (λ d lent arr. growing-past d (at forests) e root who (g .labels d lent arr) (at-suc forests e ∙ none))
+      pub grows-past : getD forests e 0 ≡ 0 → Grows m ones others forests root who (e + 1)
+      grows-past none =
+          next root who (g .root-long) (g .who-long)
+          (λ d lent arr. growing-past d (at forests) e root who (g .labels d lent arr) (at-suc forests e ∙ none))
 
-    -- an edge that has a forest
-    module _ (given : Given m ones others forests) (f u v : ℕ) (at-f : f ≡ getD forests e 0) (at-u : u ≡ getD ones e 0) (at-v : v ≡ getD others e 0)
-        (some : f ≢ 0) where
-      in-forests : (d : Design) → Lent d m ones others → Arranged d (at forests) → In (k d) f
-      in-forests d lent arr =
-          let q : at forests (suc e) ≡ f = at-suc forests e ∙ sym at-f in
-          subst (In (k d)) q (placed d (at forests) arr (suc e) (omega (arith, lent .edges)) (omega arith))
+      -- an edge that has a forest
+      module _ (given : Given m ones others forests) {f u v : ℕ} (read : Read ones others forests e f u v) (some : f ≢ 0) where
+        in-forests : (d : Design) → Lent d m ones others → Arranged d (at forests) → In (k d) f
+        in-forests d lent arr =
+            let q : at forests (suc e) ≡ f = at-suc forests e ∙ sym (read .forest) in
+            subst (In (k d)) q (placed d (at forests) arr (suc e) (omega (arith, lent .edges)) (omega arith))
 
-      pub grows-ready : Ready f u v root who
-      grows-ready =
-          let ends = ends-tabled (given .design) m ones others (given .lent) (suc e) (omega arith) in
-          let hf : In 6 f = omega (arith, in-forests (given .design) (given .lent) (given .arranged), given .lent .few) in
-          let hu = subst (In 64) (at-suc ones e ∙ sym at-u) (ends .0) in
-          let hv = subst (In 64) (at-suc others e ∙ sym at-v) (ends .1) in
-          let labels = g .labels (given .design) (given .lent) (given .arranged) f hf in
-          record {
-            forest = hf;
-            one = hu;
-            other = hv;
-            one-label = labels .small u hu;
-            other-label = labels .small v hv;
-            root-long = g .root-long;
-            who-long = g .who-long;
-          }
+        pub grows-ready : Ready f u v root who
+        grows-ready =
+            let ends = ends-tabled (given .design) m ones others (given .lent) (suc e) (omega arith) in
+            let hf : In 6 f = omega (arith, in-forests (given .design) (given .lent) (given .arranged), given .lent .few) in
+            let hu = subst (In 64) (at-suc ones e ∙ sym (read .one)) (ends .0) in
+            let hv = subst (In 64) (at-suc others e ∙ sym (read .other)) (ends .1) in
+            let labels = g .labels (given .design) (given .lent) (given .arranged) f hf in
+            record {
+              forest = hf;
+              one = hu;
+              other = hv;
+              one-label = labels .small u hu;
+              other-label = labels .small v hv;
+              root-long = g .root-long;
+              who-long = g .who-long;
+            }
 
-      pub grows-more : (root′ who′ : List ℕ) (word : ℕ) → United f u v root who root′ who′ word → Grows m ones others forests root′ who′ (e + 1)
-      grows-more root′ who′ word un =
-          next root′ who′ (un .root-long) (un .who-long)
-          (λ d lent arr.
-          growing-more d (at forests) e root who (g .labels d lent arr) arr (omega (arith, lent .edges)) f u v word root′ who′ (at-suc forests e ∙ sym at-f)
-          (ap (λ (h : ℕ → ℕ). h (suc e)) (lent .one) ∙ at-suc ones e ∙ sym at-u) (ap (λ (h : ℕ → ℕ). h (suc e)) (lent .other) ∙ at-suc others e ∙ sym at-v)
-          (grows-ready .forest) (in-forests d lent arr) un)
+        pub grows-more : {root′ who′ : List ℕ} {word : ℕ} → United f u v root who root′ who′ word → Grows m ones others forests root′ who′ (e + 1)
+        grows-more {root′} {who′} {word} un =
+            next root′ who′ (un .root-long) (un .who-long)
+            (λ d lent arr.
+            growing-more d (at forests) e root who (g .labels d lent arr) arr (omega (arith, lent .edges)) f u v word root′ who′
+            (at-suc forests e ∙ sym (read .forest)) (ap (λ (h : ℕ → ℕ). h (suc e)) (lent .one) ∙ at-suc ones e ∙ sym (read .one))
+            (ap (λ (h : ℕ → ℕ). h (suc e)) (lent .other) ∙ at-suc others e ∙ sym (read .other)) (grows-ready .forest) (in-forests d lent arr) un)

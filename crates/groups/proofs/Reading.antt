@@ -7,7 +7,7 @@ use Prim.Native.Nat.{ℕ, suc, _-_, _≤_}
 use native.Mathlib.Omega.{arith}
 use lib.ListN.{getD}
 use Rattle.rule.specs.Sets.{Is, _=?_, Set, In, at}
-use Rattle.rule.specs.Legal.{Design, Ends}
+use Rattle.rule.specs.Legal.{Design}
 use Rattle.rule.specs.Forests.{inForest}
 use Rattle.rule.proofs.Tests.{same-test, and-make}
 use Rattle.theory.specs.Numbers.{every}

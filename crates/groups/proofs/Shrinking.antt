@@ -11,10 +11,9 @@ use lib.ListN.{length}
 use Rattle.rule.specs.Sets.{Is, In, at}
 use Rattle.rule.specs.Legal.{Design}
 use Rattle.rule.specs.Forests.{Arranged}
-use Rattle.labels.specs.Rows.{Long}
 use Rattle.labels.proofs.Carried.{row-kept, labels-carried}
 use Rattle.groups.specs.Lent.{Lent, Coloured, Given, limits}
-use Rattle.groups.specs.Passes.{Planted, stays, Thinned, Core, Shrunk}
+use Rattle.groups.specs.Passes.{Planted, stays, Thinned, Shrunk}
 use Rattle.groups.proofs.Thinning.{held, Part, part-arranged, part-next, Between, between-all, between-next, stable-greatest, stable-joined}
 use Rattle.groups.proofs.Judging.{thinned-none, thinned-same}
 use Rattle.groups.proofs.Reading.{stays-held}
@@ -26,11 +25,11 @@ pub record Shrinking (m : ℕ) (ones others colours : List ℕ) (red black : ℕ
   pub between : (d : Design) → Lent d m ones others → Coloured d colours → Arranged d (at before)
       → Between d (at before) (limits d red black) (at left)
 
-module _ (m : ℕ) (ones others colours : List ℕ) (red black : ℕ) (before : List ℕ) where
+module _ {m : ℕ} {ones others colours : List ℕ} {red black : ℕ} {before : List ℕ} where
   pub shrinking-none : Shrinking m ones others colours red black before before
   shrinking-none = record { as-long = refl; part = λ e h. inl refl; between = λ d lent coloured arr. between-all d (at before) (limits d red black) }
 
-  module _ (left : List ℕ) (s : Shrinking m ones others colours red black before left) where
+  module _ {left : List ℕ} (s : Shrinking m ones others colours red black before left) where
     still-part : (d : Design) → Lent d m ones others → Part (d .m) (at before) (at left)
     still-part d lent = subst (λ (z : ℕ). Part z (at before) (at left)) (sym (lent .edges)) (s .part)
 
@@ -44,7 +43,7 @@ module _ (m : ℕ) (ones others colours : List ℕ) (red black : ℕ) (before : 
 
     -- ---- a pass
 
-    module _ (few-red : red ≤ 6) (few-black : black ≤ 6) (root who left′ : List ℕ) (gone : ℕ) (p : Planted m ones others left root who)
+    module _ (few-red : red ≤ 6) (few-black : black ≤ 6) {root who left′ : List ℕ} {gone : ℕ} (p : Planted m ones others left root who)
         (t : Thinned (stays root ones others colours red black) m left left′ gone) where
       module _ (d : Design) (lent : Lent d m ones others) (coloured : Coloured d colours) (arr : Arranged d (at before)) where
         by-labels : (e : ℕ) → In (d .m) e → stays root ones others colours red black e ≡ held d (at left) (limits d red black) e
@@ -71,7 +70,7 @@ module _ (m : ℕ) (ones others colours : List ℕ) (red black : ℕ) (before : 
         stable : (d : Design) → Lent d m ones others → Coloured d colours → Arranged d (at before) → (e : ℕ) → In (d .m) e → 1 ≤ at left e
             → Is (held d (at left) (limits d red black) e)
         stable d lent coloured arr e h l =
-            sym (by-labels d lent coloured arr e h) ∙ thinned-none _ m left left′ gone t none e (omega (arith, lent .edges)) l
+            sym (by-labels d lent coloured arr e h) ∙ thinned-none t none e (omega (arith, lent .edges)) l
 
         pub shrinking-end : Shrunk m ones others colours red black before left′ root who
         shrinking-end =
@@ -84,7 +83,7 @@ module _ (m : ℕ) (ones others colours : List ℕ) (red black : ℕ) (before : 
                   λ d lent coloured arr.
                   let b = s .between d lent coloured arr in
                   record {
-                    left = λ e h. thinned-same _ m left left′ gone t none e (omega (arith, lent .edges)) ∙ stable-greatest d (at before) (limits d red black) (at left) b (stable d lent coloured arr) e h;
+                    left = λ e h. thinned-same t none e (omega (arith, lent .edges)) ∙ stable-greatest d (at before) (limits d red black) (at left) b (stable d lent coloured arr) e h;
                     labels =
                         λ i h.
                         labels-carried d _ _ (stable-joined d (at before) (limits d red black) (at left) b (stable d lent coloured arr) i (h .low)) i root who root who

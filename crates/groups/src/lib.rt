@@ -16,7 +16,6 @@ ghost use Rattle.labels.specs.Rows.{Long};
 ghost use Rattle.groups.specs.Lent.{Given};
 ghost use Rattle.groups.specs.Passes.{Seated, Planted, sameLabels, stays, Thinned, Shrunk};
 ghost use Rattle.groups.specs.Classes.{together, Listed, Classes};
-
 use rule::Book;
 use rule::Done;
 
@@ -221,7 +220,10 @@ fn list_groups(book: Book, list: &mut [u8])
     requires { ⌜ Sound book × (groupsRoom ≤ length (now list)) ⌝ }
     ensures { λ r. ⌜ Grouped book (now (list .entry)) (now (list .exit)) Done.Fine ⌝ }
 {
-    let k = wide(book.a) + wide(book.b);
+    let a = wide(book.a);
+    let k = a + wide(book.b);
+    // A group holds in every forest, so the limit of a red edge is k too.
+    let red = k;
     let n = wide(book.n);
     let count = book.count as usize;
     classes(
@@ -229,7 +231,7 @@ fn list_groups(book: Book, list: &mut [u8])
         &book.others,
         &book.colours,
         &book.forests,
-        k,
+        red,
         k,
         k,
         n,

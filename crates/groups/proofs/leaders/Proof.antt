@@ -15,7 +15,7 @@ abbrev μ-loop : tie.MeasureT-loop
 μ-loop root who j n list₀ v₀ list v = n - v
 
 loop-holds : tie.Need-loop-holds Inv-loop μ-loop
-loop-holds c = listing-none _ _ _
+loop-holds c = listing-none
 
 add-class-of : tie.Need-add-class-of Inv-loop μ-loop
 add-class-of c = search needs
@@ -54,7 +54,7 @@ loop-again c =
     let who = start .args .who .now in
     let j = start .args .j in
     let n = start .args .n in
-    listing-more (together root who j) n (start .args .list .now) (loop .list) (loop .v) (c .lowest .result + 1) (omega arith) (start .pre .0 .1 .1)
+    listing-more (omega arith) (start .pre .0 .1 .1)
     (class-leads root who (start .pre .1) j n (loop .v + 1) (c .before .class-of .result) (start .pre .0 .0) (start .pre .0 .1 .0) (omega arith)
     (c .before .class-of .ensures) (c .lowest .result) (c .lowest .ensures))
     (loop .inv)
@@ -63,7 +63,7 @@ same-length : tie.Need-same-length Inv-loop μ-loop
 same-length c = c .before .loop .inv .as-long
 
 returns : tie.Need-returns Inv-loop μ-loop
-returns c = listing-all _ _ _ (c .before .loop .list) (c .before .loop .v) (c .loop-test .left) (c .before .loop .inv)
+returns c = listing-all (c .loop-test .left) (c .before .loop .inv)
 
 pub leaders-spec : {M : Type 1} → statement M
 leaders-spec =

@@ -3,7 +3,7 @@ use borrow.Author.Needs.{needs}
 use mathlib.Core.Path.{sym, _∙_}
 use Prim.Native.Nat.{_-_}
 use native.Mathlib.Omega.{arith}
-use Rattle.groups.proofs.Planting.{Grows, grows-none, grows-past, grows-ready, grows-more, grows-all}
+use Rattle.groups.proofs.Planting.{Grows, Read, grows-none, grows-past, grows-ready, grows-more, grows-all}
 use Rattle.groups.proofs.plant.Statement.{statement}
 use Rattle.groups.proofs.plant.Tie as tie
 
@@ -17,7 +17,7 @@ begin-requires : tie.Need-begin-requires Inv-loop μ-loop
 begin-requires c κs = search needs
 
 loop-holds : tie.Need-loop-holds Inv-loop μ-loop
-loop-holds c = grows-none _ _ _ _ _ _ (c .begin .ensures)
+loop-holds c = grows-none (c .begin .ensures)
 
 element-copy-out-wide : tie.Need-element-copy-out-wide Inv-loop μ-loop
 element-copy-out-wide c = omega (arith, c .before .before .before .before .before .pre .0 .lent .most, c .loop-test .taken)
@@ -40,48 +40,32 @@ wide-requires-3 c κs = search needs
 add-e : tie.Need-add-e Inv-loop μ-loop
 add-e c = search needs
 
+-- what was read of the edge
+edge-read : (c : tie.After-wide3 Inv-loop μ-loop)
+    → let start = c .before .before .before .before .before .before .before .before .before .before .before in
+    Read (start .args .ones .now) (start .args .others .now) (start .args .left .now) (c .before .before .before .before .before .before .before .loop .e) (c .before .before .before .before .wide .result)
+    (c .before .before .wide2 .result) (c .wide3 .result)
+edge-read c = record { forest = c .before .before .before .before .wide .ensures; one = c .before .before .wide2 .ensures; other = c .wide3 .ensures }
+
 unite-requires : tie.Need-unite-requires Inv-loop μ-loop
 unite-requires c κs =
-    let start = c .before .before .before .before .before .before .before .before .before .before .before .before .before .before in
-    let read = c .before .before .before in
-    let loop = read .before .before .before .before .before .before .before .loop in
-    grows-ready (start .args .count) (start .args .ones .now) (start .args .others .now) (start .args .left .now) (loop .root) (loop .who) (loop .e)
-    (read .before .before .before .before .before .before .loop-test .taken) (loop .inv) (start .pre .0) (read .before .before .before .before .wide .result)
-    (read .before .before .wide2 .result) (read .wide3 .result) (read .before .before .before .before .wide .ensures) (read .before .before .wide2 .ensures)
-    (read .wide3 .ensures) (c .before .before .if1 .taken)
+    grows-ready (c .before .before .before .before .before .before .before .before .before .before .loop .inv) (c .before .before .before .before .before .before .before .before .before .loop-test .taken) (c .before .before .before .before .before .before .before .before .before .before .before .before .before .before .pre .0) (edge-read (c .before .before .before)) (c .before .before .if1 .taken)
 
 loop-less : tie.Need-loop-less Inv-loop μ-loop
 loop-less c = search needs
 
 loop-again : tie.Need-loop-again Inv-loop μ-loop
 loop-again c =
-    let start = c .before .before .before .before .before .before .before .before .before .before .before .before .before .before .before in
-    let read = c .before .before .before .before in
-    let loop = read .before .before .before .before .before .before .before .loop in
-    grows-more (start .args .count) (start .args .ones .now) (start .args .others .now) (start .args .left .now) (loop .root) (loop .who) (loop .e)
-    (read .before .before .before .before .before .before .loop-test .taken) (loop .inv) (start .pre .0) (read .before .before .before .before .wide .result)
-    (read .before .before .wide2 .result) (read .wide3 .result) (read .before .before .before .before .wide .ensures) (read .before .before .wide2 .ensures)
-    (read .wide3 .ensures) (c .before .before .before .if1 .taken) (c .unite .last .1 .1 .1 .0) (c .unite .last .1 .1 .1 .1 .0) (c .unite .result)
-    (c .unite .ensures)
+    grows-more (c .before .before .before .before .before .before .before .before .before .before .before .loop .inv) (c .before .before .before .before .before .before .before .before .before .before .loop-test .taken) (c .before .before .before .before .before .before .before .before .before .before .before .before .before .before .before .pre .0) (edge-read (c .before .before .before .before)) (c .before .before .before .if1 .taken) (c .unite .ensures)
 
 loop-less-2 : tie.Need-loop-less-2 Inv-loop μ-loop
 loop-less-2 c = search needs
 
 loop-again-2 : tie.Need-loop-again-2 Inv-loop μ-loop
-loop-again-2 c =
-    let start = c .before .before .before .before .before .before .before .before .before .before .before .before in
-    let read = c .before in
-    let loop = read .before .before .before .before .before .before .before .loop in
-    grows-past (start .args .count) (start .args .ones .now) (start .args .others .now) (start .args .left .now) (loop .root) (loop .who) (loop .e)
-    (read .before .before .before .before .before .before .loop-test .taken) (loop .inv)
-    (sym (read .before .before .before .before .wide .ensures) ∙ c .if1 .left)
+loop-again-2 c = grows-past (c .before .before .before .before .before .before .before .before .loop .inv) (c .before .before .before .before .before .before .before .loop-test .taken) (sym (c .before .before .before .before .before .wide .ensures) ∙ c .if1 .left)
 
 returns : tie.Need-returns Inv-loop μ-loop
-returns c =
-    let start = c .before .before .before .before .before in
-    let loop = c .before .loop in
-    grows-all (start .args .count) (start .args .ones .now) (start .args .others .now) (start .args .left .now) (start .pre .0) (loop .root) (loop .who) (loop .e)
-    (c .loop-test .left) (loop .inv)
+returns c = grows-all (c .before .loop .inv) (c .before .before .before .before .before .pre .0) (c .loop-test .left)
 
 pub plant-spec : {M : Type 1} → statement M
 plant-spec =

@@ -1,7 +1,5 @@
 -- `groups::shrink`: pass after pass (Shrinking.antt). Each pass but the last leaves fewer edges.
-use borrow.Author.Needs.{needs}
-use mathlib.Core.Path.{_≡_, _∙_}
-use lib.ListN.{length}
+use mathlib.Core.Path.{_∙_}
 use native.Mathlib.Omega.{arith}
 use Rattle.labels.specs.Rows.{Long}
 use Rattle.groups.proofs.Judging.{leftOver, thinned-fewer}
@@ -18,13 +16,13 @@ abbrev μ-loop : tie.MeasureT-loop
 μ-loop ones others colours red black count left₀ root₀ who₀ left root who = leftOver count left
 
 loop-holds : tie.Need-loop-holds Inv-loop μ-loop
-loop-holds c = (shrinking-none _ _ _ _ _ _ (c .args .left .now), c .pre .1 .1 .1)
+loop-holds c = (shrinking-none, c .pre .1 .1 .1)
 
 plant-requires : tie.Need-plant-requires Inv-loop μ-loop
 plant-requires c κs =
     let start = c .before .before .before .before in
     let loop = c .before .before .before .loop in
-    (shrinking-given _ _ _ _ _ _ (start .args .left .now) (loop .left) (loop .inv .0) (start .pre .0), loop .inv .1)
+    (shrinking-given (loop .inv .0) (start .pre .0), loop .inv .1)
 
 thin-requires : tie.Need-thin-requires Inv-loop μ-loop
 thin-requires c κs =
@@ -44,15 +42,11 @@ returns c =
     let loop = c .before .before .before .before .before .before .before .before .loop in
     let plant = c .before .before .before .before .plant in
     let thin = c .before .thin in
-    shrinking-end _ _ _ _ _ _ (start .args .left .now) (loop .left) (loop .inv .0) (start .pre .1 .0 .0) (start .pre .1 .0 .1)
-    (plant .last .1 .1 .1 .1 .0) (plant .last .1 .1 .1 .1 .1 .0) (thin .last .1 .1 .1 .1 .1 .1 .1 .0) (thin .result) (plant .ensures) (thin .ensures)
-    (c .if1 .taken)
+    shrinking-end (loop .inv .0) (start .pre .1 .0 .0) (start .pre .1 .0 .1) (plant .ensures) (thin .ensures) (c .if1 .taken)
 
 loop-less : tie.Need-loop-less Inv-loop μ-loop
 loop-less c =
-    let loop = c .before .before .before .before .before .before .before .before .loop in
-    let thin = c .before .thin in
-    let fewer = thinned-fewer _ _ (loop .left) (thin .last .1 .1 .1 .1 .1 .1 .1 .0) (thin .result) (thin .ensures) in
+    let fewer = thinned-fewer (c .before .thin .ensures) in
     omega (arith, fewer, c .if1 .left)
 
 loop-again : tie.Need-loop-again Inv-loop μ-loop
@@ -61,8 +55,7 @@ loop-again c =
     let loop = c .before .before .before .before .before .before .before .before .loop in
     let plant = c .before .before .before .before .plant in
     let thin = c .before .thin in (
-      shrinking-next _ _ _ _ _ _ (start .args .left .now) (loop .left) (loop .inv .0) (start .pre .1 .0 .0) (start .pre .1 .0 .1)
-          (plant .last .1 .1 .1 .1 .0) (plant .last .1 .1 .1 .1 .1 .0) (thin .last .1 .1 .1 .1 .1 .1 .1 .0) (thin .result) (plant .ensures) (thin .ensures),
+      shrinking-next (loop .inv .0) (start .pre .1 .0 .0) (start .pre .1 .0 .1) (plant .ensures) (thin .ensures),
       (plant .ensures .root-long, plant .ensures .who-long),
     )
 

@@ -18,7 +18,7 @@ abbrev μ-loop : tie.MeasureT-loop
 μ-loop ones others colours root red black count left₀ gone₀ e₀ left gone e = count - e
 
 loop-holds : tie.Need-loop-holds Inv-loop μ-loop
-loop-holds c = (omega arith, judged-none _ (c .args .left .now))
+loop-holds c = (omega arith, judged-none)
 
 add-e : tie.Need-add-e Inv-loop μ-loop
 add-e c = search needs
@@ -39,19 +39,17 @@ element-write-left c = search needs
 add-gone : tie.Need-add-gone Inv-loop μ-loop
 add-gone c =
     let loop = c .before .before .before .before .before .loop in
-    record { fits = omega (arith, judged-few _ _ (loop .left) (loop .e) (loop .gone) (loop .inv .1)) }
+    record { fits = omega (arith, judged-few (loop .inv .1)) }
 
 loop-less : tie.Need-loop-less Inv-loop μ-loop
 loop-less c = search needs
 
 loop-again : tie.Need-loop-again Inv-loop μ-loop
 loop-again c =
-    let start = c .before .before .before .before .before .before in
     let loop = c .before .before .before .before .before .loop in
     let goes = sym (c .before .remains .ensures) ∙ not-true _ (c .if2 .taken) in (
       omega arith,
-      judged-gone _ (start .args .left .now) (loop .left) (loop .e) (loop .gone) (loop .inv .1) (omega arith) (c .before .before .if1 .taken)
-          (λ h. false≢true (sym goes ∙ h)),
+      judged-gone (loop .inv .1) (omega arith) (c .before .before .if1 .taken) (λ h. false≢true (sym goes ∙ h)),
     )
 
 loop-less-2 : tie.Need-loop-less-2 Inv-loop μ-loop
@@ -59,27 +57,21 @@ loop-less-2 c = search needs
 
 loop-again-2 : tie.Need-loop-again-2 Inv-loop μ-loop
 loop-again-2 c =
-    let start = c .before .before .before .before .before .before in
-    let loop = c .before .before .before .before .before .loop in (
-      omega arith,
-      judged-stays _ (start .args .left .now) (loop .left) (loop .e) (loop .gone) (loop .inv .1)
-          (sym (c .before .remains .ensures) ∙ not-false _ (c .if2 .left)),
-    )
+    let loop = c .before .before .before .before .before .loop in
+    (omega arith, judged-stays (loop .inv .1) (sym (c .before .remains .ensures) ∙ not-false _ (c .if2 .left)))
 
 loop-less-3 : tie.Need-loop-less-3 Inv-loop μ-loop
 loop-less-3 c = search needs
 
 loop-again-3 : tie.Need-loop-again-3 Inv-loop μ-loop
 loop-again-3 c =
-    let start = c .before .before .before .before in
     let loop = c .before .before .before .loop in
-    (omega arith, judged-empty _ (start .args .left .now) (loop .left) (loop .e) (loop .gone) (loop .inv .1) (c .if1 .left))
+    (omega arith, judged-empty (loop .inv .1) (c .if1 .left))
 
 returns : tie.Need-returns Inv-loop μ-loop
 returns c =
-    let start = c .before .before in
     let loop = c .before .loop in
-    judged-all _ (start .args .left .now) (loop .left) (loop .e) (loop .gone) (start .args .count) (loop .inv .0) (c .loop-test .left) (loop .inv .1)
+    judged-all (loop .inv .0) (c .loop-test .left) (loop .inv .1)
 
 pub thin-spec : {M : Type 1} → statement M
 thin-spec =
