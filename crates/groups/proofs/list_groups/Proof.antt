@@ -36,7 +36,7 @@ classes-requires c κs =
     let few : numbers .before .before .wide .result + numbers .before .wide2 .result ≤ 6 =
     omega (arith, forests-few book sound, numbers .before .before .wide .ensures, numbers .before .wide2 .ensures) in
     let bodies : numbers .wide3 .result ≤ 64 = omega (arith, sound-head book sound .bodies .high, numbers .wide3 .ensures) in
-    (book-given book sound, ((few, (few, few)), (forests-long start, (bodies, omega (arith, start .pre .1, bodies)))))
+    (book-given book sound, ((omega (arith, few), (few, few)), (forests-long start, (bodies, omega (arith, start .pre .1, bodies)))))
 
 same-length : tie.Need-same-length
 same-length c = search needs

@@ -1,9 +1,9 @@
 -- `groups::remains`: the limit and the ends are read, and the labels compared.
 use borrow.Author.Needs.{needs}
-use mathlib.Core.Path.{sym, _∙_, subst}
-use Prim.Native.Nat.{ℕ, _≤_}
+use mathlib.Core.Path.{_∙_}
+use native.Mathlib.Omega.{arith}
 use lib.ListN.{getD}
-use Rattle.rule.specs.Sets.{In, _=?_, at}
+use Rattle.rule.specs.Sets.{_=?_, at}
 use Rattle.groups.proofs.Reading.{either-most, stays-at}
 use Rattle.groups.proofs.remains.Statement.{statement}
 use Rattle.groups.proofs.remains.Tie as tie
@@ -30,12 +30,12 @@ same-labels-requires : tie.Need-same-labels-requires
 unfolding at
 same-labels-requires c κs =
     let limit = c .before .before .before .before .limit in
-    let start = c .before .before .before .before .before .before in (
-      subst (λ (j : ℕ). j ≤ 6) (sym (limit .ensures))
-          (either-most (getD (start .args .colours .now) (start .args .e) 0 =? 1) (start .args .red) (start .args .black) 6 (start .pre .0 .1 .0)
-          (start .pre .0 .1 .1)),
-      (subst (In 64) (sym (c .before .before .wide .ensures)) (start .pre .1 .0), subst (In 64) (sym (c .wide2 .ensures)) (start .pre .1 .1)),
-    )
+    let start = c .before .before .before .before .before .before in
+    let few =
+    either-most (getD (start .args .colours .now) (start .args .e) 0 =? 1) (start .args .red) (start .args .black) 6 (start .pre .0 .1 .0) (start .pre .0 .1 .1) in
+    let one = c .before .before .wide .ensures in
+    let other = c .wide2 .ensures in
+    (omega (arith, few, limit .ensures), (omega (arith, start .pre .1, one, other), omega (arith, start .pre .1, one, other)))
 
 returns : tie.Need-returns
 returns c =

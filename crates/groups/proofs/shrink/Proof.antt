@@ -42,7 +42,7 @@ returns c =
     let loop = c .before .before .before .before .before .before .before .before .loop in
     let plant = c .before .before .before .before .plant in
     let thin = c .before .thin in
-    shrinking-end (loop .inv .0) (start .pre .1 .0 .0) (start .pre .1 .0 .1) (plant .ensures) (thin .ensures) (c .if1 .taken)
+    shrinking-end (loop .inv .0) (start .pre .1 .0 .0) (start .pre .1 .0 .1) (plant .ensures) (thin .ensures) (omega (arith, c .if1 .taken))
 
 loop-less : tie.Need-loop-less Inv-loop μ-loop
 loop-less c =
