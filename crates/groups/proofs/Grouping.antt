@@ -12,13 +12,13 @@ use Rattle.rule.specs.declared.Book.{Book}
 use Rattle.rule.specs.declared.Done.{Done}
 use Rattle.rule.specs.Sets.{Set, In, at}
 use Rattle.rule.specs.Legal.{Design, Ends, k}
-use Rattle.rule.specs.Forests.{keptIn, Arranged}
+use Rattle.rule.specs.Forests.{limit, keptIn, Arranged}
 use Rattle.rule.specs.Figures.{Leads, Groups}
 use Rattle.rule.specs.Books.{designOf, forestOf, Sound}
 use Rattle.rule.specs.Calls.{Grouped}
 use Rattle.rule.proofs.Places.{at-suc}
 use Rattle.theory.specs.Closed.{greatest}
-use Rattle.theory.specs.Groups.{joinedInAll, rigidCore}
+use Rattle.theory.specs.Groups.{joinedInAll, rigidCore, core}
 use Rattle.theory.proofs.Legal.Sound.{sound-head, sound-ends, sound-arranged}
 use Rattle.theory.proofs.Groups.Share.{group-iff}
 use Rattle.groups.specs.Lent.{Lent, Coloured, Given, limits}
@@ -37,6 +37,11 @@ limits-one d j = fun-ext (λ e. either (d .red e))
 rigid : (d : Design) (forest : ℕ → ℕ) → greatest d forest (limits d (k d) (k d)) ≡ rigidCore d forest
 unfolding rigidCore
 rigid d forest = ap (greatest d forest) (limits-one d (k d))
+
+-- with each edge's own limit it is the set that request #102 asks for
+pub own-limits : (d : Design) (forest : ℕ → ℕ) → greatest d forest (limits d (d .a) (k d)) ≡ core d forest
+unfolding core limits limit
+own-limits d forest = refl
 
 -- ---- the list
 

@@ -1,12 +1,14 @@
-// Classes of bodies that a set of kept edges holds together in each of the first forests: the rigid groups of document 01.
+// Classes of bodies that the greatest closed set of kept edges joins in each of the first forests; with limit k for every edge, and over
+// all k forests, they are the rigid groups of document 01.
 //
 // The greatest closed set is what is left of the kept edges when those whose ends some forest 1 to their limit no longer joins are
 // deleted again and again. The limits of red and of black edges are parameters. What is left is held as the forests of its edges, 0
-// for an edge that is deleted, so that a pass needs nothing but the labels of the forests that are left.
+// for an edge that is deleted, so that a pass needs nothing but the labels of the forests that are left. The class of a body is
+// then a word: the bodies of its trees, forest by forest, and its lowest bit is the smallest of them.
 ghost use mathlib.Core.Path.{_≡_};
+ghost use mathlib.Core.Bool.{cond};
 ghost use Prim.Native.Nat.{ℕ, suc, _-_, _≤_, _<_};
 ghost use lib.ListN.{length};
-ghost use mathlib.Core.Bool.{cond};
 ghost use Rattle.rule.specs.Sets.{In, _=?_, at};
 ghost use Rattle.rule.specs.Books.{Sound};
 ghost use Rattle.rule.specs.Reasons.{groupsRoom};
@@ -19,6 +21,7 @@ ghost use Rattle.groups.specs.Classes.{together, Listed, Classes};
 use rule::Book;
 use rule::Done;
 
+// A byte as a number.
 fn wide(x: u8) -> usize
     ensures { λ r. ⌜ r ≡ x ⌝ }
 {
