@@ -1,0 +1,5 @@
+pub mod Lines
+pub mod Words
+pub mod Sheets
+pub mod Due
+pub mod Faults
