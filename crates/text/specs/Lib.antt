@@ -3,3 +3,4 @@ pub mod Words
 pub mod Sheets
 pub mod Due
 pub mod Faults
+pub mod Readings
