@@ -1,3 +1,5 @@
 pub mod Picks
 pub mod Numerals
 pub mod Scans
+pub mod Keys
+pub mod Fields

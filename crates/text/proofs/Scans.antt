@@ -60,9 +60,9 @@ scan-turn s most v k h =
 
 -- The loop of `text::number` stands at place k of s: k digits are taken, their value is v, and `scan` goes on from there.
 pub record Turned (s : List ℕ) (most v k : ℕ) : Type 0 where
-  few : k ≤ most
-  small : v < 10 ^ k
-  left : readNumber most s ≡ scan (most - k) v k (drop k s)
+  pub few : k ≤ most
+  pub small : v < 10 ^ k
+  pub left : readNumber most s ≡ scan (most - k) v k (drop k s)
 
 pub turned-none : (s : List ℕ) (most : ℕ) → getD s 0 0 ≢ digit 0 → Turned s most 0 0
 unfolding readNumber
@@ -189,12 +189,11 @@ number-complete w n r h e =
     ∙ taken-some _ _ (omega (arith, numeral-not-empty n))
     ∙ ap₂ Value (word .value) (omega arith))
 
--- what is read is a number that the list begins with
-pub data NumberFound (w : ℕ) (s : List ℕ) : Reading → Type 0 where
+data NumberFound (w : ℕ) (s : List ℕ) : Reading → Type 0 where
   is : (n : ℕ) (r : List ℕ) → n < 10 ^ suc w → s ≡ numeral n ++ r → NumberFound w s (Value n (length (numeral n)))
   none : NumberFound w s Nothing
 
-pub number-finds : (w : ℕ) (s : List ℕ) → NumberFound w s (readNumber (suc w) s)
+number-finds : (w : ℕ) (s : List ℕ) → NumberFound w s (readNumber (suc w) s)
 unfolding readNumber
 number-finds w s = by-eq (getD s 0 0) (digit 0) (λ q. subst (NumberFound w s) (sym (pick-eq _ (digit 0) _ _ q)) (zero-first s q))
     (λ q. subst (NumberFound w s) (sym (pick-ne _ (digit 0) _ _ q)) (by-scan q (scan-takes (suc w) 0 0 s)))
@@ -223,3 +222,25 @@ number-finds w s = by-eq (getD s 0 0) (digit 0) (λ q. subst (NumberFound w s) (
         subst (NumberFound w s)
         (sym (t .reads ∙ taken-some _ _ (omega arith) ∙ ap (Value (valueFrom 0 (t .front))) same-length))
         (is (valueFrom 0 (t .front)) (t .rest) (named .1) (t .splits ∙ ap (λ (z : List ℕ). z ++ t .rest) (named .0))))
+
+-- what is read is a number that the list begins with
+pub record NumberAt (w : ℕ) (s : List ℕ) (n used : ℕ) : Type 0 where
+  pub rest : List ℕ
+  pub small : n < 10 ^ suc w
+  pub begins : s ≡ numeral n ++ rest
+  pub uses : used ≡ length (numeral n)
+
+pub number-sound : (w : ℕ) (s : List ℕ) (n used : ℕ) → readNumber (suc w) s ≡ Value n used → NumberAt w s n used
+number-sound w s n used e = go (readNumber (suc w) s) (number-finds w s) e
+  where
+    go : (r : Reading) → NumberFound w s r → r ≡ Value n used → NumberAt w s n used
+    go r (is m rest small begins) q =
+        let value : m ≡ n = cc in
+        let uses : length (numeral m) ≡ used = cc in
+        record {
+          rest = rest;
+          small = subst (λ (i : ℕ). i < 10 ^ suc w) value small;
+          begins = begins ∙ ap (λ (i : ℕ). numeral i ++ rest) value;
+          uses = sym uses ∙ ap (λ (i : ℕ). length (numeral i)) value;
+        }
+    go r none q = let z : _≡_ {A = ℕ} 0 1 = cc in absurd (omega arith)

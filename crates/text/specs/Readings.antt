@@ -9,7 +9,9 @@ use lib.ListN.{length, getD, drop}
 use Rattle.rule.specs.Sets.{_and_, _=?_, _<?_}
 use Rattle.text.specs.declared.Reading.{Reading}
 use Rattle.text.specs.declared.Reading.the-variants.{Value, Nothing}
-use Rattle.text.specs.Lines.{pick, digit, LF}
+use Rattle.text.specs.declared.EdgeLine.{EdgeLine}
+use Rattle.text.specs.declared.EdgeLine.the-variants.{Joins}
+use Rattle.text.specs.Lines.{pick, digit, LF, comma, key-red, key-black}
 
 -- the digit that a byte is, or 10 where it is none
 unfoldable pub digitOf : ℕ → ℕ
@@ -28,3 +30,44 @@ scan (suc most) value used (x ∷ s) = pick (9 <? digitOf x) (taken value used) 
 -- the number of at most `most` digits that s begins with. After a leading zero no digit belongs to it
 unfoldable pub readNumber : ℕ → List ℕ → Reading
 readNumber most s = pick (getD s 0 0 =? digit 0) (Value 0 1) (scan most 0 0 s)
+
+-- ---- at a place of a text
+
+-- the byte `stop` is to follow the number; what is used is then the place past that byte
+unfoldable pub closed : ℕ → List ℕ → ℕ → Reading → Reading
+closed stop text at (Value value used) = pick (getD text (at + used) 0 =? stop) (Value value (at + used + 1)) Nothing
+closed stop text at Nothing = Nothing
+
+-- a number of a text and the byte that ends it
+unfoldable pub readField : ℕ → List ℕ → ℕ → Reading
+readField stop text at = closed stop text at (readNumber 3 (drop at text))
+
+unfoldable pub begins : List ℕ → List ℕ → Bool
+begins [] s = true
+begins (k ∷ key) [] = false
+begins (k ∷ key) (x ∷ s) = x =? k and begins key s
+
+-- a line of a key and one number
+unfoldable pub readNumberLine : List ℕ → List ℕ → ℕ → Reading
+readNumberLine key text at =
+    pick (length text <? at) Nothing (pick (begins key (drop at text)) (readField LF text (at + length key)) Nothing)
+
+-- ---- an edge line
+
+unfoldable pub otherEnd : (one colour : ℕ) → Reading → EdgeLine
+otherEnd one colour (Value other next) = Joins one other colour next
+otherEnd one colour Nothing = EdgeLine.Nothing
+
+unfoldable pub oneEnd : List ℕ → ℕ → Reading → EdgeLine
+oneEnd text colour (Value one middle) = otherEnd one colour (readField LF text middle)
+oneEnd text colour Nothing = EdgeLine.Nothing
+
+-- the two numbers of an edge line, past its key
+unfoldable pub readEnds : List ℕ → (at colour : ℕ) → EdgeLine
+readEnds text at colour = oneEnd text colour (readField comma text at)
+
+unfoldable pub readEdge : List ℕ → ℕ → EdgeLine
+readEdge text at =
+    pick (length text <? at) EdgeLine.Nothing
+    (pick (begins key-red (drop at text)) (readEnds text (at + 4) 1)
+    (pick (begins key-black (drop at text)) (readEnds text (at + 6) 2) EdgeLine.Nothing))

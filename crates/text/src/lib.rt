@@ -2,11 +2,22 @@
 ghost use mathlib.Core.Path.{_≡_};
 ghost use Prim.Native.Nat.{_≤_};
 ghost use lib.ListN.{length, getD};
-ghost use Rattle.text.specs.Readings.{digitOf, taken, readNumber};
+ghost use Rattle.text.specs.Readings.{digitOf, taken, readNumber, readField, begins, readNumberLine, readEnds, readEdge};
 
-// What reading a number finds: its value, and how many bytes were used.
+// What reading a number finds: its value, and how many bytes were used or, at a place of a text, the place past it.
 pub enum Reading {
     Value(usize, usize),
+    Nothing,
+}
+
+// What reading an edge line finds: its two bodies, its colour (1 red, 2 black) and the place past its LF.
+pub enum EdgeLine {
+    Joins {
+        one: usize,
+        other: usize,
+        colour: u8,
+        next: usize,
+    },
     Nothing,
 }
 
@@ -55,4 +66,85 @@ pub fn number(s: &[u8], most: usize) -> Reading
         used += 1;
     }
     taken(value, used)
+}
+
+// The number of one to three digits at a place of a text, with the byte `stop` after it.
+fn field(text: &[u8], at: usize, stop: u8) -> Reading
+    ensures { λ r. ⌜ r ≡ readField stop (now (text .entry)) at ⌝ }
+{
+    if text.len() < at {
+        return Reading::Nothing;
+    }
+    let r = number(&text[at..], 3);
+    let Reading::Value(value, used) = r else {
+        return Reading::Nothing;
+    };
+    let end = at + used;
+    if byte(text, end) == stop { Reading::Value(value, end + 1) } else { Reading::Nothing }
+}
+
+// Whether `s` begins with `key`.
+fn begins(s: &[u8], key: &[u8]) -> bool
+    ensures { λ r. ⌜ r ≡ begins (now (key .entry)) (now (s .entry)) ⌝ }
+{
+    if s.len() < key.len() {
+        return false;
+    }
+    let mut i = 0;
+    while i < key.len() {
+        if s[i] != key[i] {
+            return false;
+        }
+        i += 1;
+    }
+    true
+}
+
+// The line of a key and one number at a place of a text.
+pub fn number_line(text: &[u8], at: usize, key: &[u8]) -> Reading
+    ensures { λ r. ⌜ r ≡ readNumberLine (now (key .entry)) (now (text .entry)) at ⌝ }
+{
+    if text.len() < at {
+        return Reading::Nothing;
+    }
+    if begins(&text[at..], key) {
+        return field(text, at + key.len(), 10);
+    }
+    Reading::Nothing
+}
+
+// The two numbers of an edge line, past its key.
+fn ends(text: &[u8], at: usize, colour: u8) -> EdgeLine
+    ensures { λ r. ⌜ r ≡ readEnds (now (text .entry)) at colour ⌝ }
+{
+    let first = field(text, at, 44);
+    let Reading::Value(one, middle) = first else {
+        return EdgeLine::Nothing;
+    };
+    let second = field(text, middle, 10);
+    let Reading::Value(other, next) = second else {
+        return EdgeLine::Nothing;
+    };
+    EdgeLine::Joins {
+        one,
+        other,
+        colour,
+        next,
+    }
+}
+
+// The edge line at a place of a text.
+pub fn edge_at(text: &[u8], at: usize) -> EdgeLine
+    ensures { λ r. ⌜ r ≡ readEdge (now (text .entry)) at ⌝ }
+{
+    if text.len() < at {
+        return EdgeLine::Nothing;
+    }
+    if begins(&text[at..], b"red=") {
+        return ends(text, at + 4, 1);
+    }
+    if begins(&text[at..], b"black=") {
+        return ends(text, at + 6, 2);
+    }
+    EdgeLine::Nothing
 }
