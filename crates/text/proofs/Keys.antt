@@ -7,11 +7,12 @@ use mathlib.Core.List.{List, [], _∷_, _++_}
 use Prim.Native.Nat.{ℕ, suc, _+_, _≤_, _<_}
 use native.Mathlib.Omega.{arith}
 use native.Mathlib.Numerals.{add-one}
-use lib.ListN.{length, getD, drop}
+use lib.ListN.{length, getD, drop, length-drop}
 use lib.Seq.{drop-cons, drop-length}
 use Rattle.rule.specs.Sets.{Is, _and_, _=?_}
-use Rattle.rule.proofs.Tests.{never, is-false, and-make, and-l, and-r, eq-of, eq-is, eq-self}
-use Rattle.text.specs.Readings.{begins}
+use Rattle.rule.proofs.Tests.{never, by-le, is-false, and-make, and-l, and-r, eq-of, eq-is, eq-self}
+use Rattle.text.specs.Readings.{begins, beginsAt}
+use Rattle.text.proofs.Picks.{pick-lt, pick-ge}
 
 -- ---- the test
 
@@ -31,6 +32,22 @@ unfolding begins
 begins-long [] s h = omega arith
 begins-long (k ∷ key) [] h = never h
 begins-long (k ∷ key) (x ∷ s) h = omega (arith, begins-long key s (and-r (x =? k) _ h))
+
+-- at a place
+
+pub begins-at-past : (key text : List ℕ) (at : ℕ) → length text < at → beginsAt key text at ≡ false
+unfolding beginsAt
+begins-at-past key text at h = pick-lt _ _ _ _ h
+
+pub begins-at-in : (key text : List ℕ) (at : ℕ) → at ≤ length text → beginsAt key text at ≡ begins key (drop at text)
+unfolding beginsAt
+begins-at-in key text at h = pick-ge _ _ _ _ h
+
+pub begins-at-within : (key text : List ℕ) (at : ℕ) → Is (beginsAt key text at) → at + length key ≤ length text
+begins-at-within key text at h =
+    by-le at (length text)
+    (λ l. omega (arith, begins-long key (drop at text) (sym (begins-at-in key text at l) ∙ h), length-drop at text))
+    (λ l. never (sym (begins-at-past key text at l) ∙ h))
 
 -- ---- the loop stands at place i of both, which agree before it
 

@@ -47,10 +47,12 @@ begins [] s = true
 begins (k ∷ key) [] = false
 begins (k ∷ key) (x ∷ s) = x =? k and begins key s
 
+unfoldable pub beginsAt : List ℕ → List ℕ → ℕ → Bool
+beginsAt key text at = pick (length text <? at) false (begins key (drop at text))
+
 -- a line of a key and one number
 unfoldable pub readNumberLine : List ℕ → List ℕ → ℕ → Reading
-readNumberLine key text at =
-    pick (length text <? at) Nothing (pick (begins key (drop at text)) (readField LF text (at + length key)) Nothing)
+readNumberLine key text at = pick (beginsAt key text at) (readField LF text (at + length key)) Nothing
 
 -- ---- an edge line
 
@@ -68,6 +70,5 @@ readEnds text at colour = oneEnd text colour (readField comma text at)
 
 unfoldable pub readEdge : List ℕ → ℕ → EdgeLine
 readEdge text at =
-    pick (length text <? at) EdgeLine.Nothing
-    (pick (begins key-red (drop at text)) (readEnds text (at + 4) 1)
-    (pick (begins key-black (drop at text)) (readEnds text (at + 6) 2) EdgeLine.Nothing))
+    pick (beginsAt key-red text at) (readEnds text (at + 4) 1)
+    (pick (beginsAt key-black text at) (readEnds text (at + 6) 2) EdgeLine.Nothing)

@@ -2,7 +2,7 @@
 ghost use mathlib.Core.Path.{_≡_};
 ghost use Prim.Native.Nat.{_≤_};
 ghost use lib.ListN.{length, getD};
-ghost use Rattle.text.specs.Readings.{digitOf, taken, readNumber, readField, begins, readNumberLine, readEnds, readEdge};
+ghost use Rattle.text.specs.Readings.{digitOf, taken, readNumber, readField, begins, beginsAt, readNumberLine, readEnds, readEdge};
 
 // What reading a number finds: its value, and how many bytes were used or, at a place of a text, the place past it.
 pub enum Reading {
@@ -100,17 +100,25 @@ fn begins(s: &[u8], key: &[u8]) -> bool
     true
 }
 
+// Whether `key` stands at a place of a text.
+fn begins_at(text: &[u8], at: usize, key: &[u8]) -> bool
+    ensures { λ r. ⌜ r ≡ beginsAt (now (key .entry)) (now (text .entry)) at ⌝ }
+{
+    if text.len() < at {
+        return false;
+    }
+    begins(&text[at..], key)
+}
+
 // The line of a key and one number at a place of a text.
 pub fn number_line(text: &[u8], at: usize, key: &[u8]) -> Reading
     ensures { λ r. ⌜ r ≡ readNumberLine (now (key .entry)) (now (text .entry)) at ⌝ }
 {
-    if text.len() < at {
-        return Reading::Nothing;
+    if begins_at(text, at, key) {
+        field(text, at + key.len(), 10)
+    } else {
+        Reading::Nothing
     }
-    if begins(&text[at..], key) {
-        return field(text, at + key.len(), 10);
-    }
-    Reading::Nothing
 }
 
 // The two numbers of an edge line, past its key.
@@ -137,13 +145,10 @@ fn ends(text: &[u8], at: usize, colour: u8) -> EdgeLine
 pub fn edge_at(text: &[u8], at: usize) -> EdgeLine
     ensures { λ r. ⌜ r ≡ readEdge (now (text .entry)) at ⌝ }
 {
-    if text.len() < at {
-        return EdgeLine::Nothing;
-    }
-    if begins(&text[at..], b"red=") {
+    if begins_at(text, at, b"red=") {
         return ends(text, at + 4, 1);
     }
-    if begins(&text[at..], b"black=") {
+    if begins_at(text, at, b"black=") {
         return ends(text, at + 6, 2);
     }
     EdgeLine::Nothing

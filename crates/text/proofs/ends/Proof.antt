@@ -1,47 +1,45 @@
+-- `text::ends` meets its contract: what the two calls read picks the case of `readEnds`. Assumes nothing.
 use borrow.Author.Needs.{needs}
-use native.Mathlib.Omega.{arith}
-use borrow.Author.Needs.{needs}
+use mathlib.Core.Path.{sym, ap, _∙_}
+use Rattle.text.specs.Readings.{otherEnd, oneEnd, readEnds}
 use Rattle.text.proofs.ends.Statement.{statement}
 use Rattle.text.proofs.ends.Tie as tie
-use Rattle.text.proofs.ends.Reads as reads
-use Rattle.text.proofs.ends.Lts as lts
-use Rattle.text.proofs.field.Reads as field-reads
 
--- src/lib.rt:120:9
 field-requires : tie.Need-field-requires
-field-requires c κs = ?
+field-requires c κs = search needs
 
--- src/lib.rt:121:24
 enum-known-first : tie.Need-enum-known-first
-enum-known-first c = ?
+enum-known-first c = search needs
 
--- src/lib.rt:122:9
 enum-told : tie.Need-enum-told
-enum-told c = ?
+enum-told c = search needs
 
--- src/lib.rt:122:9
 returns : tie.Need-returns
-returns c = ?
+unfolding readEnds oneEnd
+returns c = sym (ap (oneEnd _ _) (sym (c .before .before .field .ensures) ∙ c .enum-told .given .1))
 
--- src/lib.rt:124:9
 field-requires-2 : tie.Need-field-requires-2
-field-requires-2 c κs = ?
+field-requires-2 c κs = search needs
 
--- src/lib.rt:125:24
 enum-known-second : tie.Need-enum-known-second
-enum-known-second c = ?
+enum-known-second c = search needs
 
--- src/lib.rt:126:9
 enum-told-2 : tie.Need-enum-told-2
-enum-told-2 c = ?
+enum-told-2 c = search needs
 
--- src/lib.rt:126:9
 returns-2 : tie.Need-returns-2
-returns-2 c = ?
+unfolding readEnds oneEnd otherEnd
+returns-2 c =
+    let d = c .before .before .before .before in
+    sym (ap (oneEnd _ _) (sym (d .before .before .field .ensures) ∙ d .first .given .1)
+    ∙ ap (otherEnd _ _) (sym (c .before .before .field2 .ensures) ∙ c .enum-told2 .given .1))
 
--- src/lib.rt:117:1
 returns-3 : tie.Need-returns-3
-returns-3 c = ?
+unfolding readEnds oneEnd otherEnd
+returns-3 c =
+    let d = c .before .before .before .before .before in
+    sym (ap (oneEnd _ _) (sym (d .before .before .field .ensures) ∙ d .first .given .1)
+    ∙ ap (otherEnd _ _) (sym (c .before .before .before .field2 .ensures) ∙ c .before .second .given .1))
 
 pub ends-spec : {M : Type 1} → statement M
 ends-spec =
