@@ -3,3 +3,4 @@ pub mod Numerals
 pub mod Scans
 pub mod Keys
 pub mod Fields
+pub mod LineReads

@@ -39,8 +39,12 @@ by-digit x f g =
     (λ above. g (subst (λ (d : ℕ). 9 < d) (sym (pick-ge x (digit 0) _ _ low ∙ pick-lt (digit 9) x _ _ above)) (omega arith))))
     (λ below. g (subst (λ (d : ℕ). 9 < d) (sym (pick-lt x (digit 0) _ _ below)) (omega arith)))
 
+pub no-digit : (x : ℕ) → ¬ Digit x → 9 < digitOf x
+no-digit x n = by-digit x (λ h e. absurd (n h)) (λ h. h)
+
+-- past the end there is none
 no-byte : 9 < digitOf 0
-no-byte = by-digit 0 (λ h e. absurd (omega (arith, h .low))) (λ h. h)
+no-byte = no-digit 0 (λ h. absurd (omega (arith, h .low)))
 
 -- ---- one turn of the loop
 

@@ -46,12 +46,15 @@ numberLine key then checks =
 abbrev pub FirstRange : ℕ → Type 0
 FirstRange a = In 3 a
 
--- an edge line is allowed while fewer than m have come. Its bodies are numbers, its colour is red or black
-pub record EdgeAllowed (m : ℕ) (before : List Edge) (e : Edge) : Type 0 where
-  pub due : length before < m
+-- an edge line: its bodies are numbers of a text, its colour is red or black
+pub record Written (e : Edge) : Type 0 where
   pub one : Number (e .one)
   pub other : Number (e .other)
   pub colour : ColourRange (e .colour)
+
+-- it is allowed while fewer than m have come
+abbrev pub EdgeAllowed : ℕ → List Edge → Edge → Type 0
+EdgeAllowed m before e = (length before < m) × Written e
 
 -- lines 1 to 4, and then the edge lines; when they have all come no line is allowed
 unfoldable pub due : Said → DueLine
