@@ -4,3 +4,4 @@ pub mod Scans
 pub mod Keys
 pub mod Fields
 pub mod LineReads
+pub mod EdgeReads

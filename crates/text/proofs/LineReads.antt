@@ -39,25 +39,25 @@ unfolding line listed
 line-two key n m more = simp append-assoc
 
 -- neither byte that ends a number is a digit
-LF-ends : 9 < digitOf LF
+pub LF-ends : 9 < digitOf LF
 LF-ends = no-digit LF (λ h. absurd (omega (arith, h .low)))
 
-comma-ends : 9 < digitOf comma
+pub comma-ends : 9 < digitOf comma
 comma-ends = no-digit comma (λ h. absurd (omega (arith, h .low)))
 
 -- ---- a key
 
-key-there : (key text : List ℕ) (at : ℕ) → Is (beginsAt key text at) → drop at text ≡ key ++ drop (at + length key) text
+pub key-there : (key text : List ℕ) (at : ℕ) → Is (beginsAt key text at) → drop at text ≡ key ++ drop (at + length key) text
 key-there key text at h =
     let inside = begins-at-within key text at h in
     begins-of key (drop at text) (sym (begins-at-in key text at (omega arith)) ∙ h)
     ∙ ap (λ (s : List ℕ). key ++ s) (drop-drop (length key) at text)
 
-key-found : (key text more : List ℕ) (at : ℕ) → at ≤ length text → drop at text ≡ key ++ more → Is (beginsAt key text at)
+pub key-found : (key text more : List ℕ) (at : ℕ) → at ≤ length text → drop at text ≡ key ++ more → Is (beginsAt key text at)
 key-found key text more at l e = begins-at-in key text at l ∙ ap (begins key) e ∙ begins-is key more
 
 -- what follows equal keys
-after-key : (key r q : List ℕ) → key ++ r ≡ key ++ q → r ≡ q
+pub after-key : (key r q : List ℕ) → key ++ r ≡ key ++ q → r ≡ q
 after-key key r q e = sym (drop-append-seam key r) ∙ ap (drop (length key)) e ∙ drop-append-seam key q
 
 -- ---- a number line
