@@ -5,3 +5,4 @@ pub mod Keys
 pub mod Fields
 pub mod LineReads
 pub mod EdgeReads
+pub mod Steps

@@ -56,13 +56,9 @@ pub record Written (e : Edge) : Type 0 where
 abbrev pub EdgeAllowed : ℕ → List Edge → Edge → Type 0
 EdgeAllowed m before e = (length before < m) × Written e
 
--- lines 1 to 4, and then the edge lines; when they have all come no line is allowed
-unfoldable pub due : Said → DueLine
-due nothing = numberLine key-a (λ a. to-a a) (λ a. plain 1 (FirstRange a) ∷ [])
-due (to-a a) = numberLine key-b (λ b. to-b a b) (λ b. plain 1 (ProfileRange a b) ∷ [])
-due (to-b a b) = numberLine key-bodies (λ n. to-bodies a b n) (λ n. plain 2 (BodiesRange n) ∷ [])
-due (to-bodies a b n) = numberLine key-edges (λ m. to-edges a b n m []) (λ m. plain 6 (m ≤ capacity) ∷ [])
-due (to-edges a b n m before) =
+-- an edge line, after those before it: 3 comes before 4
+abbrev pub edgeLine : (a b n m : ℕ) → List Edge → DueLine
+edgeLine a b n m before =
     record {
       Value = Edge;
       Allowed = EdgeAllowed m before;
@@ -70,3 +66,11 @@ due (to-edges a b n m before) =
       then = λ e. to-edges a b n m (before ++ e ∷ []);
       checks = λ e. plain 3 (In n (e .one) × In n (e .other)) ∷ plain 4 (e .one ≢ e .other) ∷ [];
     }
+
+-- lines 1 to 4, and then the edge lines; when they have all come no line is allowed
+unfoldable pub due : Said → DueLine
+due nothing = numberLine key-a (λ a. to-a a) (λ a. plain 1 (FirstRange a) ∷ [])
+due (to-a a) = numberLine key-b (λ b. to-b a b) (λ b. plain 1 (ProfileRange a b) ∷ [])
+due (to-b a b) = numberLine key-bodies (λ n. to-bodies a b n) (λ n. plain 2 (BodiesRange n) ∷ [])
+due (to-bodies a b n) = numberLine key-edges (λ m. to-edges a b n m []) (λ m. plain 6 (m ≤ capacity) ∷ [])
+due (to-edges a b n m before) = edgeLine a b n m before

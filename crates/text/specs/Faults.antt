@@ -13,17 +13,17 @@ use Rattle.rule.specs.declared.Reason.{Reason}
 use Rattle.rule.specs.declared.Reason.the-variants.{Line}
 use Rattle.rule.specs.Reasons.{Pass, Fail}
 use Rattle.text.specs.Lines.{firstLine}
-use Rattle.text.specs.Due.{Said, nothing, to-a, to-b, to-bodies, to-edges, linesOf, due}
+use Rattle.text.specs.Due.{Said, nothing, to-a, to-b, to-bodies, to-edges, linesOf, DueLine, due}
 
 -- rest begins with the line that is due, which says value; more follows it
-pub record Next (said : Said) (rest : List ℕ) (value : due said .Value) (more : List ℕ) : Type 0 where
-  pub allowed : due said .Allowed value
-  pub begins : rest ≡ due said .bytes value ++ more
+pub record Next (line : DueLine) (rest : List ℕ) (value : line .Value) (more : List ℕ) : Type 0 where
+  pub allowed : line .Allowed value
+  pub begins : rest ≡ line .bytes value ++ more
 
 -- from what was said and the rest of a text, lines that are due and in range lead to what is then said and what then is left
 pub data Leads : Said → List ℕ → Said → List ℕ → Type 0 where
   here : {said : Said} {rest : List ℕ} → Leads said rest said rest
-  line : {said last : Said} {rest more left : List ℕ} (value : due said .Value) → Next said rest value more
+  line : {said last : Said} {rest more left : List ℕ} (value : due said .Value) → Next (due said) rest value more
       → Pass (due said .checks value) → Leads (due said .then value) more last left → Leads said rest last left
 
 -- all lines have come, and nothing follows
@@ -36,8 +36,8 @@ Ended (to-edges a b n m edges) rest = (length edges ≡ m) × (rest ≡ [])
 
 -- the next line is at fault: it is not the one due (9, which comes first), or it is and a check on it fails
 pub data AtFault (said : Said) (rest : List ℕ) : Reason → Type 0 where
-  other : ((value : due said .Value) (more : List ℕ) → ¬ Next said rest value more) → ¬ Ended said rest → AtFault said rest Line
-  fails : {reason : Reason} (value : due said .Value) (more : List ℕ) → Next said rest value more
+  other : ((value : due said .Value) (more : List ℕ) → ¬ Next (due said) rest value more) → ¬ Ended said rest → AtFault said rest Line
+  fails : {reason : Reason} (value : due said .Value) (more : List ℕ) → Next (due said) rest value more
       → Fail (due said .checks value) reason → AtFault said rest reason
 
 -- a line number, counted from 1, a reason, and a part of the text
