@@ -6,3 +6,4 @@ pub mod Fields
 pub mod LineReads
 pub mod EdgeReads
 pub mod Steps
+pub mod Runs

@@ -35,7 +35,7 @@ pub data Line (d : DueLine) (text : List ℕ) (at : ℕ) : Type 0 where
   is-other : ((value : d .Value) (more : List ℕ) → ¬ Next d (drop at text) value more) → Line d text at
 
 -- two readings of one line are the same
-pub Determined : DueLine → Type 0
+abbrev pub Determined : DueLine → Type 0
 Determined d = (rest : List ℕ) (x y : d .Value) (r q : List ℕ) → Next d rest x r → Next d rest y q → (x ≡ y) × (r ≡ q)
 
 module _ (key : List ℕ) (then : ℕ → Said) (checks : ℕ → List Check) where
@@ -49,7 +49,6 @@ module _ (key : List ℕ) (then : ℕ → Said) (checks : ℕ → List Check) wh
           is-due n place (record { allowed = f .small; begins = f .begins }) (f .past) (f .within)
 
   number-determined : Determined (numberLine key then checks)
-  unfolding Determined
   number-determined rest n m r q h k = number-line-determined key n m r q (h .allowed) (k .allowed) (sym (h .begins) ∙ k .begins)
 
 module _ (a b n m : ℕ) (before : List Edge) where
@@ -64,7 +63,6 @@ module _ (a b n m : ℕ) (before : List Edge) where
           is-due (record { one = u; other = v; colour = c }) place (record { allowed = (some, f .written); begins = f .begins }) (f .past) (f .within)
 
   edge-line-determined : Determined (edgeLine a b n m before)
-  unfolding Determined
   edge-line-determined rest e f r q h k = edge-determined e f r q (h .allowed .1) (k .allowed .1) (sym (h .begins) ∙ k .begins)
 
 -- ---- the line that is due
