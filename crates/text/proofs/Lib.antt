@@ -7,3 +7,4 @@ pub mod LineReads
 pub mod EdgeReads
 pub mod Steps
 pub mod Runs
+pub mod SheetRuns
