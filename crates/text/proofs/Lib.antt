@@ -8,3 +8,4 @@ pub mod EdgeReads
 pub mod Steps
 pub mod Runs
 pub mod SheetRuns
+pub mod Outcomes

@@ -35,13 +35,17 @@ fault-stuck {said} {rest} {reason} (fails x r n f) value more next pass =
     let same = line-determined said rest value x more r next n in
     pass-not-fail (due said .checks x) reason (subst (λ (v : due said .Value). Pass (due said .checks v)) (same .0) pass) f
 
-pub ended-stuck : (said : Said) (rest : List ℕ) → Ended said rest → Stuck said rest
+-- when all lines have come none is allowed
+pub ended-none : (said : Said) (rest : List ℕ) → Ended said rest → (value : due said .Value) (more : List ℕ) → ¬ Next (due said) rest value more
 unfolding due
-ended-stuck nothing rest e value more next pass = absurd e
-ended-stuck (to-a a) rest e value more next pass = absurd e
-ended-stuck (to-b a b) rest e value more next pass = absurd e
-ended-stuck (to-bodies a b n) rest e value more next pass = absurd e
-ended-stuck (to-edges a b n m edges) rest e value more next pass = absurd (omega (arith, e .0, next .allowed .0))
+ended-none nothing rest e value more next = e
+ended-none (to-a a) rest e value more next = e
+ended-none (to-b a b) rest e value more next = e
+ended-none (to-bodies a b n) rest e value more next = e
+ended-none (to-edges a b n m edges) rest e value more next = absurd (omega (arith, e .0, next .allowed .0))
+
+pub ended-stuck : (said : Said) (rest : List ℕ) → Ended said rest → Stuck said rest
+ended-stuck said rest e value more next pass = ended-none said rest e value more next
 
 -- ---- two runs end alike
 
