@@ -26,10 +26,10 @@ use Rattle.text.proofs.LineReads.{line-two, LF-ends, comma-ends, key-th
 
 -- ---- the two keys
 
-key-of-red : (c : ℕ) → c ≡ 1 → keyOf c ≡ key-red
+pub key-of-red : (c : ℕ) → c ≡ 1 → keyOf c ≡ key-red
 key-of-red c h = pick-eq c 1 key-red key-black h
 
-key-of-black : (c : ℕ) → c ≡ 2 → keyOf c ≡ key-black
+pub key-of-black : (c : ℕ) → c ≡ 2 → keyOf c ≡ key-black
 key-of-black c h = pick-ne c 1 key-red key-black (omega arith)
 
 -- their first bytes differ

@@ -9,3 +9,4 @@ pub mod Steps
 pub mod Runs
 pub mod SheetRuns
 pub mod Outcomes
+pub mod Sizes
