@@ -24,20 +24,20 @@ use Rattle.text.proofs.SheetRuns.{ended-sheet, sheet-leads, sheet-ended
 
 -- ---- the first fault is determined
 
-reason-determined : {said : Said} {rest : List ℕ} {r q : Reason} → AtFault said rest r → AtFault said rest q → r ≡ q
-reason-determined (other none going) (other none′ going′) = refl
-reason-determined (other none going) (fails x more n f) = absurd (none x more n)
-reason-determined (fails x more n f) (other none going) = absurd (none x more n)
-reason-determined {said} {rest} {r} {q} (fails x more n f) (fails y gone o g) =
+reason-determined : (said : Said) {rest : List ℕ} {r q : Reason} → AtFault (due said) (Ended said rest) rest r → AtFault (due said) (Ended said rest) rest q → r ≡ q
+reason-determined said (other none going) (other none′ going′) = refl
+reason-determined said (other none going) (fails x more n f) = absurd (none x more n)
+reason-determined said (fails x more n f) (other none going) = absurd (none x more n)
+reason-determined said {rest} {r} {q} (fails x more n f) (fails y gone o g) =
     let same = line-determined said rest x y more gone n o in
     fail-determined (due said .checks y) (line-single said y) (subst (λ (v : due said .Value). Fail (due said .checks v) r) (same .0) f) g
 
 pub fault-determined : (text : List ℕ) (f g : Fault) → FirstFault text f → FirstFault text g → f ≡ g
 fault-determined text f g p q =
-    let same = leads-determined (p .before) (q .before) (fault-stuck (p .at-fault)) (fault-stuck (q .at-fault)) in
+    let same = leads-determined (p .before) (q .before) (fault-stuck (p .said) (p .at-fault)) (fault-stuck (q .said) (q .at-fault)) in
     let lines : f .line ≡ g .line = p .number ∙ ap (λ (s : Said). suc (linesOf s)) (same .0) ∙ sym (q .number) in
     let reasons : f .reason ≡ g .reason =
-        reason-determined (subst₂ (λ (s : Said) (rest : List ℕ). AtFault s rest (f .reason)) (same .0) (same .1) (p .at-fault)) (q .at-fault) in
+        reason-determined (q .said) (subst₂ (λ (s : Said) (rest : List ℕ). AtFault (due s) (Ended s rest) rest (f .reason)) (same .0) (same .1) (p .at-fault)) (q .at-fault) in
     let starts : f .start ≡ g .start =
         omega (arith, p .within, q .within, ap length (same .1), length-drop (f .start) text, length-drop (g .start) text) in
     let sizes : f .size ≡ g .size = p .part ∙ ap (λ (rest : List ℕ). length (firstLine rest)) (same .1) ∙ sym (q .part) in
@@ -62,14 +62,14 @@ sheet-determined s t p q e =
 
 -- ---- never both
 
-not-ended : {said : Said} {rest : List ℕ} {reason : Reason} → AtFault said rest reason → ¬ Ended said rest
-not-ended (other none going) e = going e
-not-ended {said} {rest} (fails x more n f) e = ended-none said rest e x more n
+not-ended : (said : Said) {rest : List ℕ} {reason : Reason} → AtFault (due said) (Ended said rest) rest reason → ¬ Ended said rest
+not-ended said (other none going) e = going e
+not-ended said {rest} (fails x more n f) e = ended-none said rest e x more n
 
 pub sheet-no-fault : (s : Sheet) (f : Fault) → SheetRange s → ¬ FirstFault (textOf s) f
 sheet-no-fault s f r p =
-    let same = leads-determined (sheet-leads s r) (p .before) (ended-stuck (saidBy s) [] (sheet-ended s)) (fault-stuck (p .at-fault)) in
-    not-ended (p .at-fault) (subst₂ Ended (same .0) (same .1) (sheet-ended s))
+    let same = leads-determined (sheet-leads s r) (p .before) (ended-stuck (saidBy s) [] (sheet-ended s)) (fault-stuck (p .said) (p .at-fault)) in
+    not-ended (p .said) (p .at-fault) (subst₂ Ended (same .0) (same .1) (sheet-ended s))
 
 -- ---- always one
 
@@ -79,7 +79,7 @@ faultAt text at said reason =
     record { line = suc (linesOf said); reason = reason; start = at; size = length (firstLine (drop at text)) }
 
 pub first-fault : (text : List ℕ) (at : ℕ) (said : Said) (reason : Reason) → at ≤ length text → Leads nothing text said (drop at text)
-    → AtFault said (drop at text) reason → FirstFault text (faultAt text at said reason)
+    → AtFault (due said) (Ended said (drop at text)) (drop at text) reason → FirstFault text (faultAt text at said reason)
 first-fault text at said reason l run bad =
     record { said = said; within = l; before = run; number = refl; at-fault = bad; part = refl }
 

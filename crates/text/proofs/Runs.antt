@@ -29,9 +29,9 @@ leads-more (line x n p l) value next pass = line x n p (leads-more l value next 
 abbrev pub Stuck : Said → List ℕ → Type 0
 Stuck said rest = (value : due said .Value) (more : List ℕ) → Next (due said) rest value more → ¬ Pass (due said .checks value)
 
-pub fault-stuck : {said : Said} {rest : List ℕ} {reason : Reason} → AtFault said rest reason → Stuck said rest
-fault-stuck (other none going) value more next pass = none value more next
-fault-stuck {said} {rest} {reason} (fails x r n f) value more next pass =
+pub fault-stuck : (said : Said) {rest : List ℕ} {reason : Reason} → AtFault (due said) (Ended said rest) rest reason → Stuck said rest
+fault-stuck said (other none going) value more next pass = none value more next
+fault-stuck said {rest} {reason} (fails x r n f) value more next pass =
     let same = line-determined said rest value x more r next n in
     pass-not-fail (due said .checks x) reason (subst (λ (v : due said .Value). Pass (due said .checks v)) (same .0) pass) f
 

@@ -34,11 +34,12 @@ Ended (to-b a b) rest = ⊥
 Ended (to-bodies a b n) rest = ⊥
 Ended (to-edges a b n m edges) rest = (length edges ≡ m) × (rest ≡ [])
 
--- the next line is at fault: it is not the one due (9, which comes first), or it is and a check on it fails
-pub data AtFault (said : Said) (rest : List ℕ) : Reason → Type 0 where
-  other : ((value : due said .Value) (more : List ℕ) → ¬ Next (due said) rest value more) → ¬ Ended said rest → AtFault said rest Line
-  fails : {reason : Reason} (value : due said .Value) (more : List ℕ) → Next (due said) rest value more
-      → Fail (due said .checks value) reason → AtFault said rest reason
+-- the next line is at fault, where the text has not ended: it is not the one due (9, which comes first), or it is and a check on it
+-- fails
+pub data AtFault (due : DueLine) (ended : Type 0) (rest : List ℕ) : Reason → Type 0 where
+  other : ((value : due .Value) (more : List ℕ) → ¬ Next due rest value more) → ¬ ended → AtFault due ended rest Line
+  fails : {reason : Reason} (value : due .Value) (more : List ℕ) → Next due rest value more → Fail (due .checks value) reason
+      → AtFault due ended rest reason
 
 -- a line number, counted from 1, a reason, and a part of the text
 pub record Fault : Type 0 where
@@ -54,5 +55,5 @@ pub record FirstFault (text : List ℕ) (f : Fault) : Type 0 where
   pub within : f .start ≤ length text
   pub before : Leads nothing text said (drop (f .start) text)
   pub number : f .line ≡ suc (linesOf said)
-  pub at-fault : AtFault said (drop (f .start) text) (f .reason)
+  pub at-fault : AtFault (due said) (Ended said (drop (f .start) text)) (drop (f .start) text) (f .reason)
   pub part : f .size ≡ length (firstLine (drop (f .start) text))
