@@ -4,3 +4,5 @@ pub mod Sheets
 pub mod Due
 pub mod Faults
 pub mod Readings
+pub mod Judging
+pub mod Judgements

@@ -1,8 +1,12 @@
 // Book text: reading a line, judging a text, and writing numbers. What they mean is said in specs/, in the words of document 01.
+use rule::Reason;
+
 ghost use mathlib.Core.Path.{_≡_};
 ghost use Prim.Native.Nat.{_≤_};
 ghost use lib.ListN.{length, getD};
 ghost use Rattle.text.specs.Readings.{digitOf, taken, readNumber, readField, begins, beginsAt, readNumberLine, readEnds, readEdge};
+ghost use Rattle.text.specs.Judging.{within, readNumbered, readStep};
+ghost use Rattle.text.specs.Judgements.{HeadFound, IsHead, TextFound, Judges};
 
 // What reading a number finds: its value, and how many bytes were used or, at a place of a text, the place past it.
 pub enum Reading {
@@ -19,6 +23,46 @@ pub enum EdgeLine {
         next: usize,
     },
     Nothing,
+}
+
+// A number line in range, as its value and the place past it; or why not.
+pub enum Numbered {
+    Value(usize, usize),
+    Refused(Reason),
+}
+
+// An edge line in range, as the place past it; or why not.
+pub enum Step {
+    On(usize),
+    Refused(Reason),
+}
+
+// The numbers of the four lines of the head, and the place past them.
+pub struct Head {
+    pub a: u8,
+    pub b: u8,
+    pub n: u8,
+    pub edges: u16,
+    pub first: usize,
+}
+
+// The head of a text, or its first fault: the reason, the line's number and the place where the line begins.
+pub enum Found {
+    Fine(Head),
+    Fault(Reason, usize, usize),
+}
+
+// What a text is: a sheet in range, with the number of its edges and the place of its first edge line; or refused, with the number of
+// the line at fault, counted from 1.
+pub enum Judgement {
+    Sheet {
+        a: u8,
+        b: u8,
+        n: u8,
+        edges: u16,
+        first: usize,
+    },
+    Refused(Reason, usize),
 }
 
 // The byte at a place, or 0 past the end: no line has a byte 0.
@@ -152,4 +196,47 @@ pub fn edge_at(text: &[u8], at: usize) -> EdgeLine
         return ends(text, at + 6, 2);
     }
     EdgeLine::Nothing
+}
+
+fn within(low: usize, high: usize, x: usize) -> bool
+    ensures { λ r. ⌜ r ≡ within low high x ⌝ }
+{
+    if x < low {
+        return false;
+    }
+    x <= high
+}
+
+// The number line of a key at a place, its number one of low to high.
+fn number_in(text: &[u8], at: usize, key: &[u8], low: usize, high: usize, why: Reason) -> Numbered
+    ensures { λ r. ⌜ r ≡ readNumbered (now (key .entry)) low high why (now (text .entry)) at ⌝ }
+{
+    let r = number_line(text, at, key);
+    let Reading::Value(value, next) = r else {
+        return Numbered::Refused(Reason::Line);
+    };
+    if within(low, high, value) {
+        Numbered::Value(value, next)
+    } else {
+        Numbered::Refused(why)
+    }
+}
+
+// The edge line at a place, between two different bodies of 1 to n.
+fn edge_in(text: &[u8], at: usize, n: usize) -> Step
+    ensures { λ r. ⌜ r ≡ readStep n (now (text .entry)) at ⌝ }
+{
+    let e = edge_at(text, at);
+    let EdgeLine::Joins { one, other, colour: _, next } = e else {
+        return Step::Refused(Reason::Line);
+    };
+    if within(1, n, one) {
+        if within(1, n, other) {
+            if one == other {
+                return Step::Refused(Reason::SameBody);
+            }
+            return Step::On(next);
+        }
+    }
+    Step::Refused(Reason::Body)
 }

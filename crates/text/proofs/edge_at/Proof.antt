@@ -2,9 +2,8 @@
 use borrow.Author.Needs.{needs}
 use native.Mathlib.Omega.{arith}
 use mathlib.Core.Path.{sym, _∙_}
-use mathlib.Core.Bool.{false≢true}
 use Rattle.text.specs.Readings.{readEdge}
-use Rattle.text.proofs.Picks.{pick-is, pick-not}
+use Rattle.text.proofs.Picks.{pick-true, pick-false}
 use Rattle.text.proofs.Keys.{begins-at-within}
 use Rattle.text.proofs.edge_at.Statement.{statement}
 use Rattle.text.proofs.edge_at.Tie as tie
@@ -25,7 +24,7 @@ returns : tie.Need-returns
 unfolding readEdge
 returns c =
     let d = c .before in
-    c .ends .ensures ∙ sym (pick-is _ _ _ (sym (d .before .begins-at .ensures) ∙ d .if1 .taken))
+    c .ends .ensures ∙ sym (pick-true _ _ _ (d .before .begins-at .ensures) (d .if1 .taken))
 
 slice-aggregate-begins-at-2 : tie.Need-slice-aggregate-begins-at-2
 slice-aggregate-begins-at-2 c = search needs
@@ -45,15 +44,15 @@ returns-2 c =
     let d = c .before in
     let first = d .before .before .before in
     c .ends2 .ensures
-    ∙ sym (pick-not _ _ _ (λ h. false≢true (sym (first .if1 .left) ∙ first .before .begins-at .ensures ∙ h))
-    ∙ pick-is _ _ _ (sym (d .before .begins-at2 .ensures) ∙ d .if2 .taken))
+    ∙ sym (pick-false _ _ _ (first .before .begins-at .ensures) (first .if1 .left)
+    ∙ pick-true _ _ _ (d .before .begins-at2 .ensures) (d .if2 .taken))
 
 returns-3 : tie.Need-returns-3
 unfolding readEdge
 returns-3 c =
     let first = c .before .before .before in
-    sym (pick-not _ _ _ (λ h. false≢true (sym (first .if1 .left) ∙ first .before .begins-at .ensures ∙ h))
-    ∙ pick-not _ _ _ (λ h. false≢true (sym (c .if2 .left) ∙ c .before .begins-at2 .ensures ∙ h)))
+    sym (pick-false _ _ _ (first .before .begins-at .ensures) (first .if1 .left)
+    ∙ pick-false _ _ _ (c .before .begins-at2 .ensures) (c .if2 .left))
 
 pub edge-at-spec : {M : Type 1} → statement M
 edge-at-spec =

@@ -2,9 +2,8 @@
 use borrow.Author.Needs.{needs}
 use native.Mathlib.Omega.{arith}
 use mathlib.Core.Path.{sym, _∙_}
-use mathlib.Core.Bool.{false≢true}
 use Rattle.text.specs.Readings.{readNumberLine}
-use Rattle.text.proofs.Picks.{pick-is, pick-not}
+use Rattle.text.proofs.Picks.{pick-true, pick-false}
 use Rattle.text.proofs.Keys.{begins-at-within}
 use Rattle.text.proofs.number_line.Statement.{statement}
 use Rattle.text.proofs.number_line.Tie as tie
@@ -22,11 +21,11 @@ returns : tie.Need-returns
 unfolding readNumberLine
 returns c =
     let d = c .before in
-    c .field .ensures ∙ sym (pick-is _ _ _ (sym (d .before .begins-at .ensures) ∙ d .if1 .taken))
+    c .field .ensures ∙ sym (pick-true _ _ _ (d .before .begins-at .ensures) (d .if1 .taken))
 
 returns-2 : tie.Need-returns-2
 unfolding readNumberLine
-returns-2 c = sym (pick-not _ _ _ (λ h. false≢true (sym (c .if1 .left) ∙ c .before .begins-at .ensures ∙ h)))
+returns-2 c = sym (pick-false _ _ _ (c .before .begins-at .ensures) (c .if1 .left))
 
 pub number-line-spec : {M : Type 1} → statement M
 number-line-spec = tie.close (tie.spec begins-at-requires add-field field-requires returns returns-2)
