@@ -68,7 +68,7 @@ edge-determined e f r q we wf same =
     alike : (key : List ℕ) → keyOf (e .colour) ≡ key → keyOf (f .colour) ≡ key → e .colour ≡ f .colour → (e ≡ f) × (r ≡ q)
     alike key ke kf c =
         let p = ends-determined (e .one) (e .other) (f .one) (f .other) r q (we .one) (we .other) (wf .one) (wf .other)
-            (after-key key _ _ (sym (edge-apart e key r ke) ∙ same ∙ edge-apart f key q kf)) in
+        (after-key key _ _ (sym (edge-apart e key r ke) ∙ same ∙ edge-apart f key q kf)) in
         (λ i. record { one = p .0 i; other = p .1 i; colour = c i }, p .2)
 
 -- ---- the two numbers
@@ -109,13 +109,13 @@ ends-sound text at colour u v c next e = first (readField comma text at) refl e
         let other : b ≡ v = cc in
         let place : end ≡ next = cc in
         let at-ends : EndsAt text at a b end =
-            record {
-              one = f .small;
-              other = g .small;
-              begins = f .begins ∙ ap (λ (s : List ℕ). numeral a ++ comma ∷ s) (g .begins);
-              past = omega (arith, f .past, g .past);
-              within = g .within;
-            } in
+        record {
+          one = f .small;
+          other = g .small;
+          begins = f .begins ∙ ap (λ (s : List ℕ). numeral a ++ comma ∷ s) (g .begins);
+          past = omega (arith, f .past, g .past);
+          within = g .within;
+        } in
         (subst₃ (EndsAt text at) one other place at-ends, cc)
 
     first : (r : Reading) → readField comma text at ≡ r → oneEnd text colour r ≡ Joins u v c next → EndsAt text at u v next × (c ≡ colour)
@@ -171,8 +171,7 @@ edge-found text at e more l w q =
     (f .0, pick-is _ _ _ (key-found key-red text _ at l apart) ∙ f .1 ∙ ap (λ (c : ℕ). Joins (e .one) (e .other) c (f .0)) (sym red)))
     (λ black.
     let apart = q ∙ edge-apart e key-black more (key-of-black _ black) in
-    let f = ends-complete text (at + 6) 2 (e .one) (e .other) more (w .one) (w .other) (past-front text key-black _ at apart) in
-    (
+    let f = ends-complete text (at + 6) 2 (e .one) (e .other) more (w .one) (w .other) (past-front text key-black _ at apart) in (
       f .0,
       pick-not _ _ _ (λ h. red-not-black _ _ (sym (key-there key-red text at h) ∙ apart))
           ∙ pick-is _ _ _ (key-found key-black text _ at l apart)
@@ -188,14 +187,14 @@ edge-complete text at e more l w q =
     let f = edge-found text at e more l w q in
     let there = edge-sound text at (e .one) (e .other) (e .colour) (f .0) (f .1) in
     let place : f .0 ≡ at + length (edgeText e) =
-        omega (
-          arith,
-          ap length (there .begins),
-          length-append (edgeText e) (drop (f .0) text),
-          length-drop at text,
-          length-drop (f .0) text,
-          there .within,
-        ) in
+    omega (
+      arith,
+      ap length (there .begins),
+      length-append (edgeText e) (drop (f .0) text),
+      length-drop at text,
+      length-drop (f .0) text,
+      there .within,
+    ) in
     f .1 ∙ ap (Joins (e .one) (e .other) (e .colour)) place
 
 pub edge-none : (text : List ℕ) (at : ℕ) → at ≤ length text → readEdge text at ≡ EdgeLine.Nothing → (e : Edge) (more : List ℕ) → Written e

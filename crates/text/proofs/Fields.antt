@@ -88,10 +88,10 @@ module _ (stop : ℕ) (ends : 9 < digitOf stop) where
       let same-read : Value n (length (numeral n)) ≡ Value m (length (numeral m)) = sym left ∙ ap (readNumber 3) e ∙ right in
       let same : n ≡ m = cc in
       let tails : stop ∷ r ≡ stop ∷ q =
-          sym (drop-append-seam (numeral n) (stop ∷ r))
-          ∙ ap (drop (length (numeral n))) e
-          ∙ ap (λ (k : ℕ). drop (length (numeral k)) (numeral m ++ stop ∷ q)) same
-          ∙ drop-append-seam (numeral m) (stop ∷ q) in
+      sym (drop-append-seam (numeral n) (stop ∷ r))
+      ∙ ap (drop (length (numeral n))) e
+      ∙ ap (λ (k : ℕ). drop (length (numeral k)) (numeral m ++ stop ∷ q)) same
+      ∙ drop-append-seam (numeral m) (stop ∷ q) in
       (same, ap (drop 1) tails)
 
 -- ---- what is found is there
@@ -112,7 +112,7 @@ field-there : (stop : ℕ) (text : List ℕ) (at v k : ℕ) → 1 ≤ stop → a
 field-there stop text at v k h l b f =
     let place : at + k ≡ at + length (numeral v) = ap (λ (i : ℕ). at + i) (f .uses) in
     let first : getD (f .rest) 0 0 ≡ stop =
-        sym (byte-after text (numeral v) (f .rest) at (f .begins)) ∙ ap (λ (i : ℕ). getD text i 0) (sym place) ∙ b in
+    sym (byte-after text (numeral v) (f .rest) at (f .begins)) ∙ ap (λ (i : ℕ). getD text i 0) (sym place) ∙ b in
     let rest = first-is (f .rest) stop h first in
     let left : drop (at + k) text ≡ f .rest = ap (λ (i : ℕ). drop i text) place ∙ past-front text (numeral v) (f .rest) at (f .begins) in
     record {

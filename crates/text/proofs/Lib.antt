@@ -10,3 +10,4 @@ pub mod Runs
 pub mod SheetRuns
 pub mod Outcomes
 pub mod Sizes
+pub mod Heads

@@ -37,9 +37,9 @@ fault-determined text f g p q =
     let same = leads-determined (p .before) (q .before) (fault-stuck (p .said) (p .at-fault)) (fault-stuck (q .said) (q .at-fault)) in
     let lines : f .line ≡ g .line = p .number ∙ ap (λ (s : Said). suc (linesOf s)) (same .0) ∙ sym (q .number) in
     let reasons : f .reason ≡ g .reason =
-        reason-determined (q .said) (subst₂ (λ (s : Said) (rest : List ℕ). AtFault (due s) (Ended s rest) rest (f .reason)) (same .0) (same .1) (p .at-fault)) (q .at-fault) in
+    reason-determined (q .said) (subst₂ (λ (s : Said) (rest : List ℕ). AtFault (due s) (Ended s rest) rest (f .reason)) (same .0) (same .1) (p .at-fault)) (q .at-fault) in
     let starts : f .start ≡ g .start =
-        omega (arith, p .within, q .within, ap length (same .1), length-drop (f .start) text, length-drop (g .start) text) in
+    omega (arith, p .within, q .within, ap length (same .1), length-drop (f .start) text, length-drop (g .start) text) in
     let sizes : f .size ≡ g .size = p .part ∙ ap (λ (rest : List ℕ). length (firstLine rest)) (same .1) ∙ sym (q .part) in
     λ i. record { line = lines i; reason = reasons i; start = starts i; size = sizes i }
 

@@ -213,14 +213,14 @@ number-finds w s = by-eq (getD s 0 0) (digit 0) (λ q. subst (NumberFound w s) (
         by-le (length (t .front)) 0 (λ l. subst (NumberFound w s) (sym (t .reads ∙ taken-none _ _ (omega arith))) none)
         (λ l.
         let first : getD s 0 0 ≡ getD (t .front) 0 0 =
-            ap (λ (z : List ℕ). getD z 0 0) (t .splits) ∙ List·getD-append (t .front) (t .rest) 0 0 l in
+        ap (λ (z : List ℕ). getD z 0 0) (t .splits) ∙ List·getD-append (t .front) (t .rest) 0 0 l in
         let word : Worded (suc w) (t .front) (valueFrom 0 (t .front)) =
-            record {
-              digits = t .digits;
-              few = record { low = l; high = t .few };
-              leading = λ z. absurd (q (first ∙ z));
-              value = refl;
-            } in
+        record {
+          digits = t .digits;
+          few = record { low = l; high = t .few };
+          leading = λ z. absurd (q (first ∙ z));
+          value = refl;
+        } in
         let named = worded-numeral (suc w) (t .front) _ word in
         let same-length : 0 + length (t .front) ≡ length (numeral (valueFrom 0 (t .front))) = omega (arith, ap length (named .0)) in
         subst (NumberFound w s)

@@ -67,7 +67,7 @@ said-range (to-edges a b n m es) rest e more h p r = (
   r .1,
   r .2,
   edges-range-snoc n es e (r .3)
-  (record { one = p .0 .0; other = p .0 .1; different = p .1 .0; colour = h .allowed .1 .colour }),
+      (record { one = p .0 .0; other = p .0 .1; different = p .1 .0; colour = h .allowed .1 .colour }),
 )
 
 -- lines that are due and in range keep both

@@ -1,6 +1,5 @@
 // Book text: reading a line, judging a text, and writing numbers. What they mean is said in specs/, in the words of document 01.
 use rule::Reason;
-
 ghost use mathlib.Core.Path.{_≡_};
 ghost use Prim.Native.Nat.{_≤_};
 ghost use lib.ListN.{length, getD};
@@ -88,7 +87,11 @@ fn digit_of(x: u8) -> usize
 fn taken(value: usize, used: usize) -> Reading
     ensures { λ r. ⌜ r ≡ taken value used ⌝ }
 {
-    if used == 0 { Reading::Nothing } else { Reading::Value(value, used) }
+    if used == 0 {
+        Reading::Nothing
+    } else {
+        Reading::Value(value, used)
+    }
 }
 
 // The number of at most `most` digits that `s` begins with. After a leading zero no digit belongs to it.
@@ -124,7 +127,11 @@ fn field(text: &[u8], at: usize, stop: u8) -> Reading
         return Reading::Nothing;
     };
     let end = at + used;
-    if byte(text, end) == stop { Reading::Value(value, end + 1) } else { Reading::Nothing }
+    if byte(text, end) == stop {
+        Reading::Value(value, end + 1)
+    } else {
+        Reading::Nothing
+    }
 }
 
 // Whether `s` begins with `key`.
@@ -227,7 +234,13 @@ fn edge_in(text: &[u8], at: usize, n: usize) -> Step
     ensures { λ r. ⌜ r ≡ readStep n (now (text .entry)) at ⌝ }
 {
     let e = edge_at(text, at);
-    let EdgeLine::Joins { one, other, colour: _, next } = e else {
+    let EdgeLine::Joins {
+        one,
+        other,
+        colour: _,
+        next,
+    } = e
+    else {
         return Step::Refused(Reason::Line);
     };
     if within(1, n, one) {
