@@ -25,6 +25,11 @@ ranged low high why Reading.Nothing = Numbered.Refused Line
 unfoldable pub readNumbered : List ℕ → (low high : ℕ) → Reason → List ℕ → ℕ → Numbered
 readNumbered key low high why text at = ranged low high why (readNumberLine key text at)
 
+-- why it was refused
+abbrev pub reasonOf : Numbered → Reason
+reasonOf (Numbered.Value value next) = Line
+reasonOf (Numbered.Refused reason) = reason
+
 unfoldable pub joined : ℕ → EdgeLine → Step
 joined n (EdgeLine.Joins one other colour next) =
     pick (within 1 n one) (pick (within 1 n other) (pick (one =? other) (Step.Refused SameBody) (On next)) (Step.Refused Body)) (Step.Refused Body)

@@ -4,7 +4,7 @@ ghost use mathlib.Core.Path.{_≡_};
 ghost use Prim.Native.Nat.{_≤_};
 ghost use lib.ListN.{length, getD};
 ghost use Rattle.text.specs.Readings.{digitOf, taken, readNumber, readField, begins, beginsAt, readNumberLine, readEnds, readEdge};
-ghost use Rattle.text.specs.Judging.{within, readNumbered, readStep};
+ghost use Rattle.text.specs.Judging.{within, readNumbered, reasonOf, readStep};
 ghost use Rattle.text.specs.Judgements.{HeadFound, IsHead, TextFound, Judges};
 
 // What reading a number finds: its value, and how many bytes were used or, at a place of a text, the place past it.
@@ -252,4 +252,43 @@ fn edge_in(text: &[u8], at: usize, n: usize) -> Step
         }
     }
     Step::Refused(Reason::Body)
+}
+
+// Why a number line was refused.
+fn why(r: Numbered) -> Reason
+    ensures { λ x. ⌜ x ≡ reasonOf r ⌝ }
+{
+    match r {
+        Numbered::Refused(reason) => reason,
+        Numbered::Value(_, _) => Reason::Line,
+    }
+}
+
+// The four lines of the head.
+fn head_of(text: &[u8]) -> Found
+    ensures { λ r. ⌜ HeadFound (now (text .entry)) r ⌝ }
+{
+    let one = number_in(text, 0, b"a=", 1, 3, Reason::Profile);
+    let Numbered::Value(a, second) = one else {
+        return Found::Fault(why(one), 1, 0);
+    };
+    let two = number_in(text, second, b"b=", 1, 3, Reason::Profile);
+    let Numbered::Value(b, third) = two else {
+        return Found::Fault(why(two), 2, second);
+    };
+    let three = number_in(text, third, b"bodies=", 1, 64, Reason::Bodies);
+    let Numbered::Value(n, fourth) = three else {
+        return Found::Fault(why(three), 3, third);
+    };
+    let four = number_in(text, fourth, b"edges=", 0, 512, Reason::Full);
+    let Numbered::Value(edges, first) = four else {
+        return Found::Fault(why(four), 4, fourth);
+    };
+    Found::Fine(Head {
+        a: a as u8,
+        b: b as u8,
+        n: n as u8,
+        edges: edges as u16,
+        first,
+    })
 }
