@@ -11,3 +11,4 @@ pub mod SheetRuns
 pub mod Outcomes
 pub mod Sizes
 pub mod Heads
+pub mod Walks

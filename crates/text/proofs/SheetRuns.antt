@@ -7,7 +7,7 @@ use mathlib.Core.Path.{_≡_, refl, sym, ap, _∙_, subst}
 use mathlib.Core.List.{List, [], _∷_, _++_, append-assoc, append-nil}
 use Prim.Native.Nat.{ℕ, _+_, _≤_}
 use native.Mathlib.Omega.{arith}
-use lib.ListN.{length, length-append}
+use lib.ListN.{length, drop, length-append, length-drop}
 use Rattle.rule.specs.Books.{ProfileRange, BodiesRange, capacity}
 use Rattle.rule.specs.Reasons.{Pass}
 use Rattle.text.specs.Lines.{line, key-a, key-b, key-bodies, key-edges}
@@ -145,3 +145,18 @@ sheet-leads s r =
 
 pub sheet-ended : (s : Sheet) → Ended (to-edges (s .a) (s .b) (s .n) (length (s .edges)) (s .edges)) []
 sheet-ended s = (refl, refl)
+
+-- ---- the place past the head
+
+pub head-place : (text : List ℕ) (a b n m first : ℕ) → first ≤ length text → Leads nothing text (to-edges a b n m []) (drop first text)
+    → first ≡ length (headText a b n m)
+unfolding SaidRange saidText edgesText
+head-place text a b n m first l leads =
+    let said = leads-said leads tt .1 in
+    omega (
+      arith,
+      ap length said,
+      length-append (headText a b n m ++ []) (drop first text),
+      length-append (headText a b n m) (edgesText []),
+      length-drop first text,
+    )

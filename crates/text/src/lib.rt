@@ -292,3 +292,54 @@ fn head_of(text: &[u8]) -> Found
         first,
     })
 }
+
+// The edge lines after a head, and that nothing follows them.
+fn walk(text: &[u8], head: Head) -> Found
+    requires { ⌜ IsHead (now text) head ⌝ }
+    ensures { λ r. ⌜ TextFound (now (text .entry)) r ⌝ }
+{
+    let n = head.n as usize;
+    let edges = head.edges as usize;
+    let mut at = head.first;
+    let mut i = 0;
+    while i < edges {
+        let line = edge_in(text, at, n);
+        match line {
+            Step::On(next) => at = next,
+            Step::Refused(reason) => return Found::Fault(reason, i + 5, at),
+        }
+        i += 1;
+    }
+    if at < text.len() {
+        return Found::Fault(Reason::Line, i + 5, at);
+    }
+    Found::Fine(head)
+}
+
+// The head of a text that is a book, or the first fault of one that is not.
+fn find(text: &[u8]) -> Found
+    ensures { λ r. ⌜ TextFound (now (text .entry)) r ⌝ }
+{
+    let found = head_of(text);
+    match found {
+        Found::Fine(head) => walk(text, head),
+        Found::Fault(reason, line, at) => Found::Fault(reason, line, at),
+    }
+}
+
+// What a text is, for every list of bytes.
+pub fn judge(text: &[u8]) -> Judgement
+    ensures { λ r. ⌜ Judges (now (text .entry)) r ⌝ }
+{
+    let found = find(text);
+    match found {
+        Found::Fine(head) => Judgement::Sheet {
+            a: head.a,
+            b: head.b,
+            n: head.n,
+            edges: head.edges,
+            first: head.first,
+        },
+        Found::Fault(reason, line, _) => Judgement::Refused(reason, line),
+    }
+}
