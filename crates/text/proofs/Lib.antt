@@ -12,3 +12,4 @@ pub mod Outcomes
 pub mod Sizes
 pub mod Heads
 pub mod Walks
+pub mod LineEnds

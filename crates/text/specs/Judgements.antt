@@ -2,6 +2,7 @@
 --
 -- In order: what is said of a text that is a book; of one that is not; the answers; the part that is handed back.
 use mathlib.Core.Path.{_≡_}
+use mathlib.Core.Logic.{_⊎_}
 use mathlib.Core.List.{List, []}
 use Prim.Native.Nat.{ℕ, _+_, _≤_}
 use lib.ListN.{length, take, drop}
@@ -51,3 +52,17 @@ TextFound text (Found.Fault reason line at) = FaultAt text reason line at
 abbrev pub Judges : List ℕ → Judgement → Type 0
 Judges text (Judgement.Sheet a b n edges first) = IsSheet text a b n edges first
 Judges text (Judgement.Refused reason line) = (f : Fault) × FirstFault text f × (reason ≡ f .reason) × (line ≡ f .line)
+
+-- ---- fault
+
+-- `part` is the `size` bytes of the lent text from `start` on, where they lie in it
+pub record PartOf (text part : RefT (List ℕ)) (start size : ℕ) : Type 0 where
+  pub block : part .ptr .0 ≡ text .ptr .0
+  pub offset : part .ptr .1 ≡ text .ptr .1 + start
+  pub bytes : now part ≡ take size (drop start (now text))
+
+-- the faulty line without its LF, or the empty part at the text's end when nothing is refused
+abbrev pub Hands : RefT (List ℕ) → RefT (List ℕ) → Type 0
+Hands text part =
+    ((f : Fault) × FirstFault (now text) f × PartOf text part (f .start) (f .size))
+    ⊎ ((s : Sheet) × SheetRange s × (now text ≡ textOf s) × PartOf text part (length (now text)) 0)

@@ -1,11 +1,12 @@
 // Book text: reading a line, judging a text, and writing numbers. What they mean is said in specs/, in the words of document 01.
 use rule::Reason;
 ghost use mathlib.Core.Path.{_≡_};
-ghost use Prim.Native.Nat.{_≤_};
-ghost use lib.ListN.{length, getD};
+ghost use Prim.Native.Nat.{_+_, _≤_};
+ghost use lib.ListN.{length, getD, drop};
+ghost use Rattle.text.specs.Lines.{firstLine};
 ghost use Rattle.text.specs.Readings.{digitOf, taken, readNumber, readField, begins, beginsAt, readNumberLine, readEnds, readEdge};
 ghost use Rattle.text.specs.Judging.{within, readNumbered, reasonOf, readStep};
-ghost use Rattle.text.specs.Judgements.{HeadFound, IsHead, TextFound, Judges};
+ghost use Rattle.text.specs.Judgements.{HeadFound, IsHead, TextFound, Judges, Hands};
 
 // What reading a number finds: its value, and how many bytes were used or, at a place of a text, the place past it.
 pub enum Reading {
@@ -341,5 +342,38 @@ pub fn judge(text: &[u8]) -> Judgement
             first: head.first,
         },
         Found::Fault(reason, line, _) => Judgement::Refused(reason, line),
+    }
+}
+
+// Where the line that begins at a place ends: at its LF, or at the text's end.
+fn line_end(text: &[u8], at: usize) -> usize
+    requires { ⌜ at ≤ length (now text) ⌝ }
+    ensures { λ r. ⌜ r ≡ at + length (firstLine (drop at (now (text .entry)))) ⌝ }
+{
+    let mut end = at;
+    while end < text.len() {
+        if text[end] == 10 {
+            return end;
+        }
+        end += 1;
+    }
+    end
+}
+
+// The line at fault, without its LF, as a part of the text; for a missing line, and where nothing is refused, the empty part at the
+// text's end.
+pub fn fault(text: &[u8]) -> &[u8]
+    ensures { λ r. ⌜ Hands (text .entry) r ⌝ }
+{
+    let found = find(text);
+    match found {
+        Found::Fine(_) => {
+            let end = text.len();
+            &text[end..]
+        }
+        Found::Fault(_, _, at) => {
+            let end = line_end(text, at);
+            &text[at..end]
+        }
     }
 }
