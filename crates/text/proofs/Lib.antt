@@ -13,3 +13,4 @@ pub mod Sizes
 pub mod Heads
 pub mod Walks
 pub mod LineEnds
+pub mod Answers

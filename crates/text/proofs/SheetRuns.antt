@@ -17,10 +17,15 @@ use Rattle.text.specs.Faults.{Next, Leads, here, line as one-line, Ended
 
 -- ---- lists of edges
 
-edges-text-snoc : (es : List Edge) (e : Edge) → edgesText (es ++ e ∷ []) ≡ edgesText es ++ edgeText e
+pub edges-text-append : (es fs : List Edge) → edgesText (es ++ fs) ≡ edgesText es ++ edgesText fs
 unfolding edgesText
-edges-text-snoc [] e = append-nil (edgeText e)
-edges-text-snoc (x ∷ es) e = ap (λ (s : List ℕ). edgeText x ++ s) (edges-text-snoc es e) ∙ sym (append-assoc (edgeText x) (edgesText es) (edgeText e))
+edges-text-append [] fs = refl
+edges-text-append (e ∷ es) fs =
+    ap (λ (s : List ℕ). edgeText e ++ s) (edges-text-append es fs) ∙ sym (append-assoc (edgeText e) (edgesText es) (edgesText fs))
+
+pub edges-text-snoc : (es : List Edge) (e : Edge) → edgesText (es ++ e ∷ []) ≡ edgesText es ++ edgeText e
+unfolding edgesText
+edges-text-snoc es e = edges-text-append es (e ∷ []) ∙ ap (λ (s : List ℕ). edgesText es ++ s) (append-nil (edgeText e))
 
 edges-range-snoc : (n : ℕ) (es : List Edge) (e : Edge) → EdgesRange n es → EdgeRange n e → EdgesRange n (es ++ e ∷ [])
 edges-range-snoc n [] e r h = (h, tt)

@@ -20,12 +20,12 @@ use Rattle.text.specs.declared.EdgeLine.the-variants.{Joins}
 use Rattle.text.specs.declared.Head.{Head}
 use Rattle.text.specs.declared.Step.{Step}
 use Rattle.text.specs.declared.Step.the-variants.{On}
-use Rattle.text.specs.Sheets.{Edge, EdgeRange, headText}
+use Rattle.text.specs.Sheets.{Edge, EdgeRange, edgesText, headText}
 use Rattle.text.specs.Due.{Said, nothing, to-edges, linesOf, DueLine, edgeLine, due}
 use Rattle.text.specs.Faults.{Next, Leads, Ended, AtFault, other, fails}
 use Rattle.text.specs.Readings.{readEdge}
 use Rattle.text.specs.Judging.{within, joined, readStep}
-use Rattle.text.specs.Judgements.{IsSheet, FaultAt, IsHead}
+use Rattle.text.specs.Judgements.{edgePlace, IsSheet, FaultAt, IsHead}
 use Rattle.text.proofs.Picks.{pick-is, pick-not, pick-eq, pick-ne}
 use Rattle.text.proofs.EdgeReads.{EdgeAt, edge-sound, edge-none}
 use Rattle.text.proofs.SheetRuns.{ended-sheet, head-place}
@@ -163,10 +163,12 @@ module _ {text : List ℕ} {h : Head} where
   -- all edge lines have come, and nothing follows
   pub walked-whole : {at i : ℕ} → IsHead text h → Walked text h at i → h .edges ≤ i → length text ≤ at
       → IsSheet text (h .a) (h .b) (h .n) (h .edges) (h .first)
+  unfolding edgePlace edgesText
   walked-whole {at} {i} head w all none =
       let count : length (w .edges) ≡ h .edges = omega (arith, w .count, w .few) in
       let s = ended-sheet text (h .a) (h .b) (h .n) (h .edges) (w .edges) (drop at text) (w .stands .leads)
           (count, drop-of-length-le text {i = at} none) in
+      let place = head-place text (h .a) (h .b) (h .n) (h .edges) (h .first) (head .within) (head .leads) in
       record {
         sheet = record { a = h .a; b = h .b; n = h .n; edges = w .edges };
         range = s .0;
@@ -175,5 +177,5 @@ module _ {text : List ℕ} {h : Head} where
         b-is = refl;
         n-is = refl;
         edges-is = sym count;
-        first-is = head-place text (h .a) (h .b) (h .n) (h .edges) (h .first) (head .within) (head .leads);
+        first-is = omega (arith, place, ap (λ (k : ℕ). length (headText (h .a) (h .b) (h .n) k)) count);
       }

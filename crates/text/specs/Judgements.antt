@@ -1,20 +1,42 @@
 -- What `judge` and `fault` answer, for every list of bytes.
 --
--- In order: what is said of a text that is a book; of one that is not; the answers; the part that is handed back.
+-- In order: a walk along the edge lines of a sheet; what is said of a text that is a book, and of one that is not; what the inner
+-- functions, `judge` and `fault` answer.
 use mathlib.Core.Path.{_≡_}
 use mathlib.Core.Logic.{_⊎_}
 use mathlib.Core.List.{List, []}
 use Prim.Native.Nat.{ℕ, _+_, _≤_}
-use lib.ListN.{length, take, drop}
+use lib.ListN.{length, getD, take, drop}
 use denote.Ref.{RefT, now}
 use Rattle.rule.specs.declared.Reason.{Reason}
 use Rattle.text.specs.declared.Head.{Head}
 use Rattle.text.specs.declared.Found.{Found}
 use Rattle.text.specs.declared.Judgement.{Judgement}
+use Rattle.text.specs.declared.EdgeLine.{EdgeLine}
+use Rattle.text.specs.declared.EdgeLine.the-variants.{Joins}
 use Rattle.text.specs.Lines.{firstLine}
-use Rattle.text.specs.Sheets.{Sheet, SheetRange, headText, textOf}
+use Rattle.text.specs.Sheets.{Edge, Sheet, SheetRange, edgesText, headText, textOf}
 use Rattle.text.specs.Due.{nothing, to-edges}
 use Rattle.text.specs.Faults.{Leads, Fault, FirstFault}
+
+-- ---- a walk along the edge lines
+
+-- edge i, counted from 0, and a blank past the last
+abbrev pub blank : Edge
+blank = record { one = 0; other = 0; colour = 0 }
+
+abbrev pub edgeAt : Sheet → ℕ → Edge
+edgeAt s i = getD (s .edges) i blank
+
+-- where the line of edge i begins, and past the last edge where the text ends
+unfoldable pub edgePlace : Sheet → ℕ → ℕ
+edgePlace s i = length (headText (s .a) (s .b) (s .n) (length (s .edges))) + length (edgesText (take i (s .edges)))
+
+-- what reading an edge line finds
+abbrev pub joins : Edge → ℕ → EdgeLine
+joins e next = Joins (e .one) (e .other) (e .colour) next
+
+-- ---- what a text is
 
 -- the text is that of a sheet in range, with these numbers, and its first edge line begins at `first`
 pub record IsSheet (text : List ℕ) (a b n edges first : ℕ) : Type 0 where
@@ -25,7 +47,7 @@ pub record IsSheet (text : List ℕ) (a b n edges first : ℕ) : Type 0 where
   pub b-is : b ≡ sheet .b
   pub n-is : n ≡ sheet .n
   pub edges-is : edges ≡ length (sheet .edges)
-  pub first-is : first ≡ length (headText a b n edges)
+  pub first-is : first ≡ edgePlace sheet 0
 
 -- the first fault of the text: its reason, its line number, and the place where the line begins
 abbrev pub FaultAt : List ℕ → Reason → (line at : ℕ) → Type 0
