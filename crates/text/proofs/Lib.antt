@@ -14,3 +14,4 @@ pub mod Heads
 pub mod Walks
 pub mod LineEnds
 pub mod Answers
+pub mod Overwrites

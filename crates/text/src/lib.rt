@@ -1,4 +1,6 @@
 // Book text: reading a line, judging a text, and writing numbers. What they mean is said in specs/, in the words of document 01.
+pub mod put;
+
 use rule::Reason;
 ghost use mathlib.Core.Path.{_≡_};
 ghost use Prim.Native.Nat.{_+_, _≤_};
