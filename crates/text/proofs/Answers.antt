@@ -118,7 +118,7 @@ walk-on {text} p i h =
     let there = ap (drop (edgePlace s i)) (p .is-text) ∙ place-splits s i (omega (arith, p .edges-is)) in
     let range = edge-range (s .n) (s .edges) i blank (r .edges) (omega (arith, p .edges-is)) in
     let written : Written (edgeAt s i) =
-        record { one = omega (arith, range .one .high, r .bodies .high); other = omega (arith, range .other .high, r .bodies .high); colour = range .colour } in
+    record { one = omega (arith, range .one .high, r .bodies .high); other = omega (arith, range .other .high, r .bodies .high); colour = range .colour } in
     edge-complete text (edgePlace s i) (edgeAt s i) _ (omega (arith, place-within s i, ap length (p .is-text))) written there
     ∙ ap (joins (edgeAt s i)) (place-next s i (omega (arith, p .edges-is)))
 

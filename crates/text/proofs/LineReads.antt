@@ -38,6 +38,11 @@ pub line-two : (key : List ℕ) (n m : ℕ) (more : List ℕ)
 unfolding line listed
 line-two key n m more = simp append-assoc
 
+-- a line as it is written: the key, the digits, the LF
+pub line-written : (key : List ℕ) (n : ℕ) → line key (n ∷ []) ≡ (key ++ numeral n) ++ LF ∷ []
+unfolding line listed
+line-written key n = simp append-assoc
+
 -- neither byte that ends a number is a digit
 pub LF-ends : 9 < digitOf LF
 LF-ends = no-digit LF (λ h. absurd (omega (arith, h .low)))

@@ -11,6 +11,7 @@ use native.Mathlib.Numerals.{add-one}
 use lib.ListN.{length, getD, take, drop, set, length-append, length-drop, drop-of-length-le}
 use lib.Seq.{length-take-le, take-length, take-suc, drop-cons, drop-drop, take-at, drop-at, set-at}
 use Rattle.text.specs.Puts.{Writes}
+use Rattle.text.proofs.Fields.{part-rest}
 
 -- ---- one byte more
 
@@ -78,28 +79,39 @@ module _ {given before after : List ℕ} {i : ℕ} where
 
 -- ---- one writer after another
 
--- What a writer did that was lent the part from the end on, said of the whole.
-pub writes-then : {t u s after part : List ℕ} {k j : ℕ} → Writes t s after k → Writes u (drop k after) part j
+-- what a callee sees that is lent the buffer from the end on
+abbrev pub rest : List ℕ → ℕ → List ℕ
+rest after k = take (length after - k) (drop k after)
+
+-- it has room for what is to come where there is room for all
+pub writes-rest : {t s after : List ℕ} {k : ℕ} (u : List ℕ) → Writes t s after k → length (t ++ u) ≤ length s → length u ≤ length (rest after k)
+writes-rest {t} {s} {after} {k} u w h =
+    omega (
+      arith,
+      length-append t u,
+      w .number,
+      writes-length w (omega (arith, length-append t u)),
+      ap length (part-rest after k),
+      length-drop k after,
+    )
+
+-- what it did is said of the whole
+pub writes-then : {t u s after part : List ℕ} {k j : ℕ} → Writes t s after k → Writes u (rest after k) part j
     → Writes (t ++ u) s (take k after ++ (part ++ drop (length after - k) (drop k after))) (k + j)
 writes-then {t} {u} {s} {after} {part} {k} w v =
     let front : take k after ≡ t = ap (take k) (w .fills) ∙ take-at t (drop (length t) s) k (sym (w .number)) in
-    let rest : drop k after ≡ drop (length t) s = ap (drop k) (w .fills) ∙ drop-at t (drop (length t) s) k (sym (w .number)) in
+    let left : rest after k ≡ drop (length t) s =
+    part-rest after k ∙ ap (drop k) (w .fills) ∙ drop-at t (drop (length t) s) k (sym (w .number)) in
     let none : drop (length after - k) (drop k after) ≡ [] =
-        drop-of-length-le (drop k after) {i = length after - k} (omega (arith, length-drop k after)) in
-    let count : length t + length u ≡ length (t ++ u) = sym (length-append t u) in
+    drop-of-length-le (drop k after) {i = length after - k} (omega (arith, length-drop k after)) in
     let written : part ≡ u ++ drop (length (t ++ u)) s =
-        v .fills
-        ∙ ap (λ (l : List ℕ). u ++ drop (length u) l) rest
-        ∙ ap (λ (l : List ℕ). u ++ l) (drop-drop (length u) (length t) s)
-        ∙ ap (λ (i : ℕ). u ++ drop i s) count in
+    v .fills
+    ∙ ap (λ (l : List ℕ). u ++ drop (length u) l) left
+    ∙ ap (λ (l : List ℕ). u ++ l) (drop-drop (length u) (length t) s)
+    ∙ ap (λ (i : ℕ). u ++ drop i s) (sym (length-append t u)) in
     record {
-      number = omega (arith, w .number, v .number);
+      number = omega (arith, w .number, v .number, length-append t u);
       fills =
           ap₂ (λ (x y : List ℕ). x ++ y) front (ap₂ (λ (x y : List ℕ). x ++ y) written none ∙ append-nil _)
           ∙ sym (append-assoc t u (drop (length (t ++ u)) s));
     }
-
--- the part from the end on has room where there is room for all
-pub writes-rest : {t s after : List ℕ} {k : ℕ} (u : List ℕ) → Writes t s after k → length (t ++ u) ≤ length s → length u ≤ length (drop k after)
-writes-rest {t} {s} {after} {k} u w h =
-    omega (arith, length-append t u, w .number, writes-length w (omega (arith, length-append t u)), length-drop k after)

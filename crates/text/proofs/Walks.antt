@@ -167,7 +167,7 @@ module _ {text : List ℕ} {h : Head} where
   walked-whole {at} {i} head w all none =
       let count : length (w .edges) ≡ h .edges = omega (arith, w .count, w .few) in
       let s = ended-sheet text (h .a) (h .b) (h .n) (h .edges) (w .edges) (drop at text) (w .stands .leads)
-          (count, drop-of-length-le text {i = at} none) in
+      (count, drop-of-length-le text {i = at} none) in
       let place = head-place text (h .a) (h .b) (h .n) (h .edges) (h .first) (head .within) (head .leads) in
       record {
         sheet = record { a = h .a; b = h .b; n = h .n; edges = w .edges };

@@ -65,11 +65,16 @@ returns c =
     let all = now (d .before .before .before .before .args .text) in
     let sheet = subst (TextFound all) (d .enum-told .given .1) (d .before .before .find .ensures) in
     let none : length all - length all ≡ 0 = omega arith in
-    inr (sheet .sheet, sheet .range, sheet .is-text, record {
-      block = refl;
-      offset = omega arith;
-      bytes = ap (λ (k : ℕ). take k (drop (length all) all)) none;
-    })
+    inr (
+      sheet .sheet,
+      sheet .range,
+      sheet .is-text,
+      record {
+        block = refl;
+        offset = omega arith;
+        bytes = ap (λ (k : ℕ). take k (drop (length all) all)) none;
+      },
+    )
 
 returns-2 : tie.Need-returns-2
 returns-2 c =

@@ -1,52 +1,78 @@
+-- `text::put::number_line` meets its contract: the key, the digits and the LF are written one after another (proofs/Overwrites.antt).
+-- Assumes nothing.
 use borrow.Author.Needs.{needs}
 use native.Mathlib.Omega.{arith}
-use borrow.Author.Needs.{needs}
+use mathlib.Core.Path.{_≡_, sym, ap, _∙_}
+use mathlib.Core.List.{List, [], _∷_, _++_}
+use Prim.Native.Nat.{ℕ, _+_, _-_, _≤_, _<_}
+use denote.Ref.{now}
+use lib.ListN.{length, take, drop, length-append, length-set}
+use Rattle.text.specs.Lines.{LF, numeral, line}
+use Rattle.text.specs.Puts.{Writes}
+use Rattle.text.proofs.LineReads.{line-written}
+use Rattle.text.proofs.Overwrites.{writes-as, writes-length, writes-room, writes-more, writes-then, writes-rest}
 use Rattle.text.proofs.put.number_line.Statement.{statement}
 use Rattle.text.proofs.put.number_line.Tie as tie
-use Rattle.text.proofs.put.number_line.Reads as reads
-use Rattle.text.proofs.put.number_line.Lts as lts
-use Rattle.text.proofs.put.bytes.Reads as bytes-reads
-use Rattle.text.proofs.put.number.Reads as number-reads
 
--- src/put.rt:41:9
+-- what the room for the whole line leaves for its parts
+parts : (key : List ℕ) (n : ℕ) → length (line key (n ∷ [])) ≡ length (key ++ numeral n) + 1
+parts key n = ap length (line-written key n) ∙ length-append (key ++ numeral n) (LF ∷ [])
+
+key-within : (key : List ℕ) (n : ℕ) → length key ≤ length (line key (n ∷ []))
+key-within key n = omega (arith, parts key n, length-append key (numeral n))
+
 bytes-requires : tie.Need-bytes-requires
-bytes-requires c κs = search needs
+bytes-requires c κs = let d = c .before .before .before in omega (arith, d .pre, key-within (now (d .args .key)) (d .args .n))
 
--- src/put.rt:42:23
 sub-number : tie.Need-sub-number
-sub-number c = search needs
+sub-number c =
+    let d = c .before .before in
+    let a = d .before .before .before .before in
+    omega (arith, d .bytes .ensures .number, writes-length (d .bytes .ensures) (omega (arith, a .pre, key-within (now (a .args .key)) (a .args .n))), a .pre, key-within (now (a .args .key)) (a .args .n))
 
--- src/put.rt:42:23
 part-number-start : tie.Need-part-number-start
-part-number-start c = search needs
+part-number-start c = sub-number c
 
--- src/put.rt:42:23
 part-number-end : tie.Need-part-number-end
 part-number-end c = search needs
 
--- src/put.rt:42:9
 number-requires : tie.Need-number-requires
-number-requires c κs = search needs
+number-requires c κs =
+    let d = c .before .before .before in
+    let a = d .before .before .before .before in
+    writes-rest (numeral (a .args .n)) (d .bytes .ensures) (omega (arith, a .pre, parts (now (a .args .key)) (a .args .n)))
 
--- src/put.rt:43:14
+-- the key and the digits are written, and there is room for one byte more
+wrote : (c : tie.After-number) → let b = c .before .before .before .before in
+    let a = b .before .before .before .before in
+    Writes (now (a .args .key) ++ numeral (a .args .n)) (now (a .args .buffer))
+    (take (b .bytes .result) (b .bytes .last .0) ++ (c .number .last .0 ++ drop (length (b .bytes .last .0) - b .bytes .result) (drop (b .bytes .result) (b .bytes .last .0))))
+    (b .bytes .result + c .number .result)
+wrote c = writes-then (c .before .before .before .before .bytes .ensures) (c .number .ensures)
+
+room : (c : tie.After-number) → let a = c .before .before .before .before .before .before .before .before in
+    length (now (a .args .key) ++ numeral (a .args .n)) < length (now (a .args .buffer))
+room c =
+    let a = c .before .before .before .before .before .before .before .before in
+    omega (arith, a .pre, parts (now (a .args .key)) (a .args .n))
+
 add-at : tie.Need-add-at
-add-at c = search needs
+add-at c = let d = c .before .before in omega (arith, wrote d .number, room d)
 
--- src/put.rt:44:5
 slice-write-buffer : tie.Need-slice-write-buffer
-slice-write-buffer c = search needs
+slice-write-buffer c = let d = c .before .before in writes-room (wrote d) (room d)
 
--- src/put.rt:45:5
 add-result : tie.Need-add-result
-add-result c = search needs
+add-result c = let d = c .before .before in omega (arith, wrote d .number, room d)
 
--- src/put.rt:37:1
 same-length : tie.Need-same-length
-same-length c = search needs
+same-length c = let d = c .before .before in simp length-set (writes-length (wrote d) (omega (arith, room d)))
 
--- src/put.rt:37:1
 returns : tie.Need-returns
-returns c = search needs
+returns c =
+    let d = c .before .before in
+    let a = d .before .before .before .before .before .before .before .before in
+    writes-as (sym (line-written (now (a .args .key)) (a .args .n))) (writes-more (wrote d) LF (room d))
 
 pub number-line-spec : {M : Type 1} → statement M
 number-line-spec =
