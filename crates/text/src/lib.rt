@@ -78,15 +78,16 @@ fn byte(s: &[u8], i: usize) -> u8
 fn digit_of(x: u8) -> usize
     ensures { λ r. ⌜ r ≡ digitOf x ⌝ }
 {
-    if x < 48 {
+    if x < b'0' {
         return 10;
     }
-    if 57 < x {
+    if b'9' < x {
         return 10;
     }
-    (x - 48) as usize
+    (x - b'0') as usize
 }
 
+// What was taken: at least one digit is wanted.
 fn taken(value: usize, used: usize) -> Reading
     ensures { λ r. ⌜ r ≡ taken value used ⌝ }
 {
@@ -102,7 +103,7 @@ pub fn number(s: &[u8], most: usize) -> Reading
     requires { ⌜ most ≤ 5 ⌝ }
     ensures { λ r. ⌜ r ≡ readNumber most (now (s .entry)) ⌝ }
 {
-    if byte(s, 0) == 48 {
+    if byte(s, 0) == b'0' {
         return Reading::Value(0, 1);
     }
     let mut value = 0;
@@ -169,7 +170,7 @@ pub fn number_line(text: &[u8], at: usize, key: &[u8]) -> Reading
     ensures { λ r. ⌜ r ≡ readNumberLine (now (key .entry)) (now (text .entry)) at ⌝ }
 {
     if begins_at(text, at, key) {
-        field(text, at + key.len(), 10)
+        field(text, at + key.len(), b'\n')
     } else {
         Reading::Nothing
     }
@@ -179,11 +180,11 @@ pub fn number_line(text: &[u8], at: usize, key: &[u8]) -> Reading
 fn ends(text: &[u8], at: usize, colour: u8) -> EdgeLine
     ensures { λ r. ⌜ r ≡ readEnds (now (text .entry)) at colour ⌝ }
 {
-    let first = field(text, at, 44);
+    let first = field(text, at, b',');
     let Reading::Value(one, middle) = first else {
         return EdgeLine::Nothing;
     };
-    let second = field(text, middle, 10);
+    let second = field(text, middle, b'\n');
     let Reading::Value(other, next) = second else {
         return EdgeLine::Nothing;
     };
@@ -208,6 +209,7 @@ pub fn edge_at(text: &[u8], at: usize) -> EdgeLine
     EdgeLine::Nothing
 }
 
+// Whether x is one of low to high.
 fn within(low: usize, high: usize, x: usize) -> bool
     ensures { λ r. ⌜ r ≡ within low high x ⌝ }
 {
@@ -354,10 +356,11 @@ fn line_end(text: &[u8], at: usize) -> usize
 {
     let mut end = at;
     while end < text.len() {
-        if text[end] == 10 {
-            return end;
-        }
+        let here = end;
         end += 1;
+        if text[here] == b'\n' {
+            return here;
+        }
     }
     end
 }

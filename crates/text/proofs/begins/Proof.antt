@@ -44,16 +44,5 @@ returns-3 c = matched-all (c .before .loop .inv) (c .loop-test .left)
 
 pub begins-spec : {M : Type 1} → statement M
 begins-spec =
-    tie.close
-    (tie.spec
-    Inv-loop
-    μ-loop
-    returns
-    loop-holds
-    shared-slice-read-if2
-    shared-slice-read-if2-2
-    returns-2
-    add-i
-    loop-less
-    loop-again
-    returns-3)
+    let one = tie.spec Inv-loop μ-loop returns loop-holds shared-slice-read-if2 shared-slice-read-if2-2 in
+    tie.close (one returns-2 add-i loop-less loop-again returns-3)

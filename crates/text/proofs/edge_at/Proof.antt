@@ -56,16 +56,6 @@ returns-3 c =
 
 pub edge-at-spec : {M : Type 1} → statement M
 edge-at-spec =
-    tie.close
-    (tie.spec
-    slice-aggregate-begins-at
-    begins-at-requires
-    add-ends
-    ends-requires
-    returns
-    slice-aggregate-begins-at-2
-    begins-at-requires-2
-    add-ends-2
-    ends-requires-2
-    returns-2
-    returns-3)
+    let one = tie.spec slice-aggregate-begins-at begins-at-requires add-ends ends-requires in
+    let two = one returns slice-aggregate-begins-at-2 begins-at-requires-2 add-ends-2 in
+    tie.close (two ends-requires-2 returns-2 returns-3)

@@ -43,14 +43,5 @@ returns-3 c =
 
 pub ends-spec : {M : Type 1} → statement M
 ends-spec =
-    tie.close
-    (tie.spec
-    field-requires
-    enum-known-first
-    enum-told
-    returns
-    field-requires-2
-    enum-known-second
-    enum-told-2
-    returns-2
-    returns-3)
+    let one = tie.spec field-requires enum-known-first enum-told returns field-requires-2 enum-known-second in
+    tie.close (one enum-told-2 returns-2 returns-3)

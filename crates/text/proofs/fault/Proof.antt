@@ -85,17 +85,6 @@ returns-2 c =
 
 pub fault-spec : {M : Type 1} → statement M
 fault-spec =
-    tie.close
-    (tie.spec
-    find-requires
-    enum-told
-    sub-result
-    part-result-start
-    part-result-end
-    enum-known-found
-    line-end-requires
-    sub-result-2
-    part-result-start-2
-    part-result-end-2
-    returns
-    returns-2)
+    let one = tie.spec find-requires enum-told sub-result part-result-start part-result-end in
+    let two = one enum-known-found line-end-requires sub-result-2 part-result-start-2 in
+    tie.close (two part-result-end-2 returns returns-2)

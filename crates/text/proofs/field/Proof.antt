@@ -63,18 +63,6 @@ returns-4 c =
 
 pub field-spec : {M : Type 1} → statement M
 field-spec =
-    tie.close
-    (tie.spec
-    returns
-    sub-number
-    part-number-start
-    part-number-end
-    number-requires
-    enum-known-r
-    enum-told
-    returns-2
-    add-end
-    byte-requires
-    add-t15
-    returns-3
-    returns-4)
+    let one = tie.spec returns sub-number part-number-start part-number-end number-requires in
+    let two = one enum-known-r enum-told returns-2 add-end byte-requires add-t15 returns-3 in
+    tie.close (two returns-4)

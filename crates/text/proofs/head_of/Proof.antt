@@ -177,34 +177,9 @@ returns-5 c = let s = after-edges c .1 in record { within = s .within; leads = s
 
 pub head-of-spec : {M : Type 1} → statement M
 head-of-spec =
-    tie.close
-    (tie.spec
-    slice-aggregate-number-in
-    number-in-requires
-    enum-known-one
-    enum-told
-    why-requires
-    returns
-    slice-aggregate-number-in-2
-    number-in-requires-2
-    enum-known-two
-    enum-told-2
-    why-requires-2
-    returns-2
-    slice-aggregate-number-in-3
-    number-in-requires-3
-    enum-known-three
-    enum-told-3
-    why-requires-3
-    returns-3
-    slice-aggregate-number-in-4
-    number-in-requires-4
-    enum-known-four
-    enum-told-4
-    why-requires-4
-    returns-4
-    cast-t31
-    cast-t32
-    cast-t33
-    cast-t34
-    returns-5)
+    let one = tie.spec slice-aggregate-number-in number-in-requires enum-known-one enum-told why-requires in
+    let two = one returns slice-aggregate-number-in-2 number-in-requires-2 enum-known-two enum-told-2 in
+    let three = two why-requires-2 returns-2 slice-aggregate-number-in-3 number-in-requires-3 in
+    let four = three enum-known-three enum-told-3 why-requires-3 returns-3 slice-aggregate-number-in-4 in
+    let five = four number-in-requires-4 enum-known-four enum-told-4 why-requires-4 returns-4 cast-t31 in
+    tie.close (five cast-t32 cast-t33 cast-t34 returns-5)

@@ -15,14 +15,14 @@ abbrev μ-loop : tie.MeasureT-loop
 loop-holds : tie.Need-loop-holds Inv-loop μ-loop
 loop-holds c = ending-none _ _ (c .pre)
 
+add-end : tie.Need-add-end Inv-loop μ-loop
+add-end c = search needs
+
 shared-slice-read-if1 : tie.Need-shared-slice-read-if1 Inv-loop μ-loop
 shared-slice-read-if1 c = search needs
 
 returns : tie.Need-returns Inv-loop μ-loop
 returns c = let t = c .before .before in ending-LF (t .before .loop .inv) (t .loop-test .taken) (c .if1 .taken)
-
-add-end : tie.Need-add-end Inv-loop μ-loop
-add-end c = search needs
 
 loop-less : tie.Need-loop-less Inv-loop μ-loop
 loop-less c = search needs
@@ -35,14 +35,5 @@ returns-2 c = ending-all (c .before .loop .inv) (c .loop-test .left)
 
 pub line-end-spec : {M : Type 1} → statement M
 line-end-spec =
-    tie.close
-    (tie.spec
-    Inv-loop
-    μ-loop
-    loop-holds
-    shared-slice-read-if1
-    returns
-    add-end
-    loop-less
-    loop-again
-    returns-2)
+    let one = tie.spec Inv-loop μ-loop loop-holds add-end shared-slice-read-if1 returns loop-less in
+    tie.close (one loop-again returns-2)

@@ -73,21 +73,6 @@ returns-3 c = c .taken2 .ensures ∙ turned-all (c .before .before .loop .inv) (
 
 pub number-spec : {M : Type 1} → statement M
 number-spec =
-    tie.close
-    (tie.spec
-    Inv-loop
-    μ-loop
-    byte-requires
-    returns
-    loop-holds
-    byte-requires-2
-    digit-of-requires
-    taken-requires
-    returns-2
-    mul-value
-    add-value
-    add-used
-    loop-less
-    loop-again
-    taken-requires-2
-    returns-3)
+    let one = tie.spec Inv-loop μ-loop byte-requires returns loop-holds byte-requires-2 digit-of-requires in
+    let two = one taken-requires returns-2 mul-value add-value add-used loop-less loop-again in
+    tie.close (two taken-requires-2 returns-3)

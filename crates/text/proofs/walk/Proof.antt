@@ -63,21 +63,6 @@ returns-3 c =
 
 pub walk-spec : {M : Type 1} → statement M
 walk-spec =
-    tie.close
-    (tie.spec
-    Inv-loop
-    μ-loop
-    cast-n
-    cast-edges
-    loop-holds
-    edge-in-requires
-    enum-known-line
-    enum-known-line-2
-    add-t11
-    returns
-    add-i
-    loop-less
-    loop-again
-    add-t15
-    returns-2
-    returns-3)
+    let one = tie.spec Inv-loop μ-loop cast-n cast-edges loop-holds edge-in-requires in
+    let two = one enum-known-line enum-known-line-2 add-t11 returns add-i loop-less loop-again in
+    tie.close (two add-t15 returns-2 returns-3)

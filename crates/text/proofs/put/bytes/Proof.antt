@@ -38,15 +38,5 @@ returns c = copied-all (c .before .loop .inv) (c .loop-test .left)
 
 pub bytes-spec : {M : Type 1} → statement M
 bytes-spec =
-    tie.close
-    (tie.spec
-    Inv-loop
-    μ-loop
-    loop-holds
-    shared-slice-read-buffer
-    slice-write-buffer
-    add-i
-    loop-less
-    loop-again
-    same-length
-    returns)
+    let one = tie.spec Inv-loop μ-loop loop-holds shared-slice-read-buffer slice-write-buffer in
+    tie.close (one add-i loop-less loop-again same-length returns)

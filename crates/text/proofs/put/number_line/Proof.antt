@@ -76,15 +76,5 @@ returns c =
 
 pub number-line-spec : {M : Type 1} → statement M
 number-line-spec =
-    tie.close
-    (tie.spec
-    bytes-requires
-    sub-number
-    part-number-start
-    part-number-end
-    number-requires
-    add-at
-    slice-write-buffer
-    add-result
-    same-length
-    returns)
+    let one = tie.spec bytes-requires sub-number part-number-start part-number-end in
+    tie.close (one number-requires add-at slice-write-buffer add-result same-length returns)
