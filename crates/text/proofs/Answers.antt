@@ -2,15 +2,14 @@
 -- in order.
 -- Assumes nothing.
 use mathlib.Core.Path.{_≡_, refl, sym, ap, ap₂, _∙_, subst}
-use mathlib.Core.Logic.{_⊎_, inl, inr}
-use mathlib.Core.List.{List, [], _∷_, _++_, append-assoc}
+use mathlib.Core.Logic.{inl, inr}
+use mathlib.Core.List.{List, [], _∷_, _++_}
 use Prim.Native.Nat.{ℕ, zero, suc, _+_, _≤_, _<_}
 use native.Mathlib.Omega.{arith}
 use native.Mathlib.Numerals.{add-one}
 use lib.ListN.{length, getD, take, drop, length-append, take-append-drop}
 use lib.Seq.{take-length, take-suc, split-at, drop-append-add, drop-append-seam}
 use denote.Ref.{RefT, now}
-use Rattle.rule.specs.declared.Reason.{Reason}
 use Rattle.text.specs.declared.Judgement.{Judgement}
 use Rattle.text.specs.Sheets.{Edge, Sheet, EdgeRange, EdgesRange, SheetRange, edgeText, edgesText, headText, textOf}
 use Rattle.text.specs.Due.{Written}

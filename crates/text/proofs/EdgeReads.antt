@@ -3,20 +3,20 @@
 --
 -- In order: the two keys; the two numbers; determined; what is found; what is there.
 -- Assumes nothing.
-use mathlib.Core.Path.{_≡_, refl, sym, ap, ap₂, _∙_, subst, subst₃}
-use mathlib.Core.Logic.{_⊎_, inl, inr, ⊎-elim, _≢_}
+use mathlib.Core.Path.{_≡_, refl, sym, ap, _∙_, subst, subst₃}
+use mathlib.Core.Logic.{inl, inr, ⊎-elim, _≢_}
 use mathlib.Core.List.{List, [], _∷_, _++_}
-use Prim.Native.Nat.{ℕ, suc, _+_, _-_, _≤_, _<_}
+use Prim.Native.Nat.{ℕ, _+_, _≤_, _<_}
 use native.Mathlib.Omega.{arith}
 use lib.ListN.{length, getD, drop, length-append, length-drop}
-use Rattle.rule.specs.Sets.{Is, _=?_}
+use Rattle.rule.specs.Sets.{Is}
 use Rattle.rule.specs.Books.{ColourRange}
-use Rattle.rule.proofs.Tests.{cases, by-le, by-eq}
+use Rattle.rule.proofs.Tests.{cases}
 use Rattle.text.specs.declared.Reading.{Reading}
 use Rattle.text.specs.declared.Reading.the-variants.{Value, Nothing}
 use Rattle.text.specs.declared.EdgeLine.{EdgeLine}
 use Rattle.text.specs.declared.EdgeLine.the-variants.{Joins}
-use Rattle.text.specs.Lines.{pick, numeral, Number, LF, comma, line, key-red, key-black}
+use Rattle.text.specs.Lines.{numeral, Number, LF, comma, line, key-red, key-black}
 use Rattle.text.specs.Sheets.{Edge, keyOf, edgeText}
 use Rattle.text.specs.Due.{Written}
 use Rattle.text.specs.Readings.{readField, beginsAt, otherEnd, oneEnd, readEnds, readEdge}

@@ -3,13 +3,13 @@
 -- In order: the parts of a text; the cases of `readField`; it finds each number that is there, and nothing else; a number and the byte
 -- that ends it are determined by what they begin.
 -- Assumes nothing.
-use mathlib.Core.Path.{_≡_, refl, sym, ap, ap₂, _∙_, subst, subst₂}
+use mathlib.Core.Path.{_≡_, refl, sym, ap, _∙_, subst₂}
 use mathlib.Core.Logic.{_≢_}
-use mathlib.Core.List.{List, [], _∷_, _++_, append-assoc}
-use Prim.Native.Nat.{ℕ, suc, _+_, _-_, _≤_, _<_}
+use mathlib.Core.List.{List, [], _∷_, _++_}
+use Prim.Native.Nat.{ℕ, _+_, _-_, _≤_, _<_}
 use native.Mathlib.Omega.{arith}
 use lib.ListN.{length, getD, take, drop, length-drop, length-append, drop-of-length-le}
-use lib.Seq.{take-all, drop-drop, getD-drop, getD-append-seam, drop-append-seam}
+use lib.Seq.{take-all, drop-drop, getD-drop, drop-append-seam}
 use Rattle.rule.specs.Sets.{_=?_}
 use Rattle.rule.proofs.Tests.{by-le, by-eq}
 use Rattle.text.specs.declared.Reading.{Reading}
@@ -17,7 +17,6 @@ use Rattle.text.specs.declared.Reading.the-variants.{Value, Nothing}
 use Rattle.text.specs.Lines.{pick, numeral, Number}
 use Rattle.text.specs.Readings.{digitOf, taken, scan, readNumber, closed, readField}
 use Rattle.text.proofs.Picks.{pick-eq, pick-ne}
-use Rattle.text.proofs.Numerals.{numeral-not-empty}
 use Rattle.text.proofs.Scans.{number-complete, NumberAt, number-sound}
 
 -- ---- parts

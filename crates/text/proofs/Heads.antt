@@ -3,23 +3,22 @@
 -- In order: a number line in range, and one that is at fault, for any line of one number and one check; the four lines of the head.
 -- Assumes nothing.
 use mathlib.Core.Path.{_≡_, refl, sym, ap, _∙_, subst, subst₂}
-use mathlib.Core.Logic.{_↔_, inl}
-use mathlib.Core.Bool.{Bool, false}
-use mathlib.Core.List.{List, [], _∷_, _++_}
-use Prim.Native.Nat.{ℕ, suc, _≤_, _<_}
+use mathlib.Core.Logic.{inl}
+use mathlib.Core.List.{List, [], _∷_}
+use Prim.Native.Nat.{ℕ, suc, _≤_}
 use native.Mathlib.Omega.{arith}
 use lib.ListN.{length, drop}
 use Rattle.rule.specs.declared.Reason.{Reason}
 use Rattle.rule.specs.declared.Reason.the-variants.{Profile, Bodies, Full, Line}
-use Rattle.rule.specs.Sets.{Is, In, _<?_, _≤?_}
+use Rattle.rule.specs.Sets.{Is, In}
 use Rattle.rule.specs.Books.{ProfileRange, BodiesRange, capacity}
-use Rattle.rule.specs.Reasons.{numberOf, placeOf, Check, plain, Pass, Fail}
+use Rattle.rule.specs.Reasons.{numberOf, placeOf, Check, plain, Pass}
 use Rattle.rule.proofs.Tests.{cases, never, by-le, le-is, le-of}
 use Rattle.text.specs.declared.Reading.{Reading}
 use Rattle.text.specs.declared.Reading.the-variants.{Value, Nothing}
 use Rattle.text.specs.declared.Numbered.{Numbered}
-use Rattle.text.specs.Lines.{pick, firstLine, key-a, key-b, key-bodies, key-edges}
-use Rattle.text.specs.Due.{Said, nothing, to-a, to-b, to-bodies, to-edges, linesOf, DueLine, numberLine, due}
+use Rattle.text.specs.Lines.{key-a, key-b, key-bodies, key-edges}
+use Rattle.text.specs.Due.{Said, nothing, to-a, to-b, to-bodies, to-edges, linesOf, numberLine, due}
 use Rattle.text.specs.Faults.{Next, Leads, here, Ended, AtFault, other, fails}
 use Rattle.text.specs.Readings.{readNumberLine}
 use Rattle.text.specs.Judging.{within, ranged, readNumbered}

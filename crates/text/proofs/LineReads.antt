@@ -3,29 +3,22 @@
 --
 -- In order: a line taken apart; a key; a number line; an edge line.
 -- Assumes nothing.
-use mathlib.Core.Path.{_≡_, refl, sym, ap, ap₂, _∙_, subst, subst₂}
-use mathlib.Core.Logic.{_⊎_, inl, inr, _≢_}
-use mathlib.Core.Bool.{Bool, true, false}
+use mathlib.Core.Path.{_≡_, sym, ap, _∙_}
+use mathlib.Core.Logic.{_≢_}
 use mathlib.Core.List.{List, [], _∷_, _++_, append-assoc}
-use Prim.Native.Nat.{ℕ, suc, _+_, _-_, _≤_, _<_}
+use Prim.Native.Nat.{ℕ, _+_, _≤_, _<_}
 use native.Mathlib.Omega.{arith}
-use lib.ListN.{length, getD, drop, length-append}
+use lib.ListN.{length, drop}
 use lib.Seq.{drop-drop, drop-append-seam}
-use Rattle.rule.specs.Sets.{Is, _=?_}
-use Rattle.rule.specs.Books.{ColourRange}
-use Rattle.rule.proofs.Tests.{cases, by-le, by-eq}
-use Rattle.text.specs.declared.Reading.{Reading}
+use Rattle.rule.specs.Sets.{Is}
+use Rattle.rule.proofs.Tests.{cases}
 use Rattle.text.specs.declared.Reading.the-variants.{Value, Nothing}
-use Rattle.text.specs.declared.EdgeLine.{EdgeLine}
-use Rattle.text.specs.declared.EdgeLine.the-variants.{Joins}
-use Rattle.text.specs.Lines.{pick, numeral, Number, LF, comma, listed, line, key-red, key-black}
-use Rattle.text.specs.Sheets.{Edge, keyOf, edgeText}
-use Rattle.text.specs.Due.{Written}
-use Rattle.text.specs.Readings.{digitOf, readField, begins, beginsAt, readNumberLine, otherEnd, oneEnd, readEnds, readEdge}
-use Rattle.text.proofs.Picks.{pick-is, pick-not, pick-eq, pick-ne}
+use Rattle.text.specs.Lines.{numeral, Number, LF, comma, listed, line}
+use Rattle.text.specs.Readings.{digitOf, begins, beginsAt, readNumberLine}
+use Rattle.text.proofs.Picks.{pick-is, pick-not}
 use Rattle.text.proofs.Scans.{no-digit}
 use Rattle.text.proofs.Keys.{begins-of, begins-is, begins-at-in, begins-at-within}
-use Rattle.text.proofs.Fields.{past-front, front-within, field-complete, field-determined, FieldAt, field-sound}
+use Rattle.text.proofs.Fields.{past-front, field-complete, field-determined, field-sound}
 
 -- ---- a line taken apart
 

@@ -8,14 +8,14 @@ use mathlib.Core.Logic.{_⊎_, inl, inr, by-cases}
 use mathlib.Core.List.{List, [], _∷_}
 use Prim.Native.Nat.{ℕ, zero, suc, _-_, _≤_, _<_}
 use native.Mathlib.Omega.{arith}
-use lib.ListN.{length, drop, length-drop, drop-of-length-le}
+use lib.ListN.{length, drop, length-drop}
 use Rattle.rule.specs.declared.Reason.{Reason}
 use Rattle.rule.specs.declared.Reason.the-variants.{Line}
-use Rattle.rule.specs.Reasons.{Pass, Fail}
+use Rattle.rule.specs.Reasons.{Fail}
 use Rattle.rule.proofs.Tests.{by-eq}
 use Rattle.rule.proofs.Determined.{fail-determined}
 use Rattle.text.specs.Lines.{firstLine}
-use Rattle.text.specs.Sheets.{Edge, Sheet, SheetRange, textOf}
+use Rattle.text.specs.Sheets.{Sheet, SheetRange, textOf}
 use Rattle.text.specs.Due.{Said, nothing, to-a, to-b, to-bodies, to-edges, linesOf, due}
 use Rattle.text.specs.Faults.{Next, Leads, here, Ended, AtFault, other, fails, Fault, FirstFault}
 use Rattle.text.proofs.Steps.{Line as Found, is-due, is-other, line-decided, line-determined, Checked, pass, fail, line-checked, line-single}

@@ -3,19 +3,16 @@
 -- A state is stuck when no line that is due and in range follows. A text at fault is stuck, and so is one that has ended. From one state
 -- two runs that end stuck take the same lines, since each line is determined; so they end alike.
 -- Assumes nothing.
-use mathlib.Core.Path.{_≡_, refl, sym, ap, _∙_, subst, subst₂}
-use mathlib.Core.List.{List, []}
-use Prim.Native.Nat.{ℕ, suc, _≤_}
+use mathlib.Core.Path.{_≡_, refl, sym, subst, subst₂}
+use mathlib.Core.List.{List}
+use Prim.Native.Nat.{ℕ}
 use native.Mathlib.Omega.{arith}
-use lib.ListN.{length, drop, length-drop}
 use Rattle.rule.specs.declared.Reason.{Reason}
-use Rattle.rule.specs.declared.Reason.the-variants.{Line}
-use Rattle.rule.specs.Reasons.{Pass, Fail}
-use Rattle.rule.proofs.Determined.{fail-determined, pass-not-fail}
-use Rattle.text.specs.Lines.{firstLine}
-use Rattle.text.specs.Due.{Said, nothing, to-a, to-b, to-bodies, to-edges, linesOf, due}
-use Rattle.text.specs.Faults.{Next, Leads, here, line, Ended, AtFault, other, fails, Fault, FirstFault}
-use Rattle.text.proofs.Steps.{Determined, line-determined, line-single}
+use Rattle.rule.specs.Reasons.{Pass}
+use Rattle.rule.proofs.Determined.{pass-not-fail}
+use Rattle.text.specs.Due.{Said, nothing, to-a, to-b, to-bodies, to-edges, due}
+use Rattle.text.specs.Faults.{Next, Leads, here, line, Ended, AtFault, other, fails}
+use Rattle.text.proofs.Steps.{line-determined}
 
 -- ---- one line more at the end
 

@@ -2,14 +2,14 @@
 --
 -- The longest head is `a=3`, `b=3`, `bodies=64`, `edges=512`: 28 bytes with their LFs. The longest edge line is `black=64,63`: 12 bytes.
 -- Assumes nothing.
-use mathlib.Core.Path.{_≡_, ap, _∙_}
+use mathlib.Core.Path.{_≡_, ap}
 use mathlib.Core.Logic.{⊎-elim}
-use mathlib.Core.List.{List, [], _∷_, _++_}
-use Prim.Native.Nat.{ℕ, suc, _+_, _*_, _≤_}
+use mathlib.Core.List.{List, [], _∷_}
+use Prim.Native.Nat.{ℕ, _+_, _*_, _≤_}
 use native.Mathlib.Omega.{arith}
 use lib.ListN.{length, length-append}
 use Rattle.rule.specs.Books.{BodiesRange}
-use Rattle.text.specs.Lines.{numeral, LF, comma, listed, line, key-a, key-b, key-bodies, key-edges, key-red, key-black}
+use Rattle.text.specs.Lines.{numeral, comma, listed, line, key-a, key-b, key-bodies, key-edges}
 use Rattle.text.specs.Sheets.{Edge, Sheet, EdgeRange, EdgesRange, SheetRange, keyOf, edgeText, edgesText, headText, textOf, textRoom}
 use Rattle.text.proofs.Numerals.{numeral-few}
 use Rattle.text.proofs.EdgeReads.{key-of-red, key-of-black}

@@ -4,15 +4,14 @@
 -- stops; the whole text.
 -- Assumes nothing.
 use mathlib.Core.Path.{_≡_, refl, sym, ap, _∙_, subst}
-use mathlib.Core.Logic.{_⊎_, inl, inr, _≢_}
-use mathlib.Core.List.{List, [], _∷_, _++_, append-nil}
-use Prim.Native.Nat.{ℕ, suc, _+_, _≤_, _<_}
+use mathlib.Core.Logic.{inl, inr, _≢_}
+use mathlib.Core.List.{List, [], _∷_, _++_}
+use Prim.Native.Nat.{ℕ, _+_, _≤_, _<_}
 use native.Mathlib.Omega.{arith}
 use lib.ListN.{length, drop, length-append, length-drop, drop-of-length-le}
 use Rattle.rule.specs.declared.Reason.{Reason}
 use Rattle.rule.specs.declared.Reason.the-variants.{Body, SameBody, Line}
-use Rattle.rule.specs.Sets.{Is, In, _=?_}
-use Rattle.rule.specs.Books.{capacity}
+use Rattle.rule.specs.Sets.{Is, In}
 use Rattle.rule.specs.Reasons.{Fail}
 use Rattle.rule.proofs.Tests.{cases, by-eq}
 use Rattle.text.specs.declared.EdgeLine.{EdgeLine}
@@ -21,8 +20,8 @@ use Rattle.text.specs.declared.Head.{Head}
 use Rattle.text.specs.declared.Step.{Step}
 use Rattle.text.specs.declared.Step.the-variants.{On}
 use Rattle.text.specs.Sheets.{Edge, EdgeRange, edgesText, headText}
-use Rattle.text.specs.Due.{Said, nothing, to-edges, linesOf, DueLine, edgeLine, due}
-use Rattle.text.specs.Faults.{Next, Leads, Ended, AtFault, other, fails}
+use Rattle.text.specs.Due.{to-edges, linesOf, edgeLine, due}
+use Rattle.text.specs.Faults.{Ended, AtFault, other, fails}
 use Rattle.text.specs.Readings.{readEdge}
 use Rattle.text.specs.Judging.{within, joined, readStep}
 use Rattle.text.specs.Judgements.{edgePlace, IsSheet, FaultAt, IsHead}
@@ -48,17 +47,23 @@ data Ends (n : ℕ) (e : Edge) (next : ℕ) : Step → Type 0 where
 ends-checked : (n : ℕ) (e : Edge) (next : ℕ) → Ends n e next (joined n (Joins (e .one) (e .other) (e .colour) next))
 unfolding joined
 ends-checked n e next =
+    by-eq (e .one) (e .other)
+    (λ q.
+    cases (within 1 n (e .one))
+    (λ i.
+    let one = within-in n (e .one) i in
+    subst (Ends n e next) (sym (pick-eq _ _ _ _ q ∙ pick-is _ _ _ i)) (same (one, subst (In n) q one) q))
+    (λ i. subst (Ends n e next) (sym (pick-eq _ _ _ _ q ∙ pick-not _ _ _ i)) (body (λ h. i (in-within n (e .one) (h .0))))))
+    (λ q.
     cases (within 1 n (e .one))
     (λ i.
     cases (within 1 n (e .other))
     (λ j.
-    let one = within-in n (e .one) i in
-    let other = within-in n (e .other) j in
-    by-eq (e .one) (e .other)
-    (λ q. subst (Ends n e next) (sym (pick-is _ _ _ i ∙ pick-is _ _ _ j ∙ pick-eq _ _ _ _ q)) (same (one, other) q))
-    (λ q. subst (Ends n e next) (sym (pick-is _ _ _ i ∙ pick-is _ _ _ j ∙ pick-ne _ _ _ _ q)) (fine one other q)))
-    (λ j. subst (Ends n e next) (sym (pick-is _ _ _ i ∙ pick-not _ _ _ j)) (body (λ h. j (in-within n (e .other) (h .1))))))
-    (λ i. subst (Ends n e next) (sym (pick-not _ _ _ i)) (body (λ h. i (in-within n (e .one) (h .0)))))
+    subst (Ends n e next) (sym (pick-ne _ _ _ _ q ∙ pick-is _ _ _ i ∙ pick-is _ _ _ j))
+    (fine (within-in n (e .one) i) (within-in n (e .other) j) q))
+    (λ j.
+    subst (Ends n e next) (sym (pick-ne _ _ _ _ q ∙ pick-is _ _ _ i ∙ pick-not _ _ _ j)) (body (λ h. j (in-within n (e .other) (h .1))))))
+    (λ i. subst (Ends n e next) (sym (pick-ne _ _ _ _ q ∙ pick-not _ _ _ i)) (body (λ h. i (in-within n (e .one) (h .0))))))
 
 module _ (text : List ℕ) (at n : ℕ) where
   step-on : (next : ℕ) → readStep n text at ≡ On next → (e : Edge) × EdgeAt text at e next × EdgeRange n e

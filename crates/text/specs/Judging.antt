@@ -32,7 +32,8 @@ reasonOf (Numbered.Refused reason) = reason
 
 unfoldable pub joined : ℕ → EdgeLine → Step
 joined n (EdgeLine.Joins one other colour next) =
-    pick (within 1 n one) (pick (within 1 n other) (pick (one =? other) (Step.Refused SameBody) (On next)) (Step.Refused Body)) (Step.Refused Body)
+    pick (one =? other) (pick (within 1 n one) (Step.Refused SameBody) (Step.Refused Body))
+    (pick (within 1 n one) (pick (within 1 n other) (On next) (Step.Refused Body)) (Step.Refused Body))
 joined n EdgeLine.Nothing = Step.Refused Line
 
 -- the edge line at a place, between two different bodies of 1 to n

@@ -234,7 +234,7 @@ fn number_in(text: &[u8], at: usize, key: &[u8], low: usize, high: usize, why: R
     }
 }
 
-// The edge line at a place, between two different bodies of 1 to n.
+// The edge line at a place, between two different bodies of 1 to n. An edge from a body to itself is refused for the body first.
 fn edge_in(text: &[u8], at: usize, n: usize) -> Step
     ensures { λ r. ⌜ r ≡ readStep n (now (text .entry)) at ⌝ }
 {
@@ -248,11 +248,14 @@ fn edge_in(text: &[u8], at: usize, n: usize) -> Step
     else {
         return Step::Refused(Reason::Line);
     };
+    if one == other {
+        if within(1, n, one) {
+            return Step::Refused(Reason::SameBody);
+        }
+        return Step::Refused(Reason::Body);
+    }
     if within(1, n, one) {
         if within(1, n, other) {
-            if one == other {
-                return Step::Refused(Reason::SameBody);
-            }
             return Step::On(next);
         }
     }

@@ -4,7 +4,7 @@ use borrow.Author.Needs.{needs}
 use native.Mathlib.Omega.{arith}
 use mathlib.Core.Path.{_≡_, sym, ap, _∙_}
 use denote.Ref.{now}
-use lib.ListN.{length, drop}
+use lib.ListN.{drop}
 use Rattle.text.specs.Readings.{readNumber}
 use Rattle.text.proofs.Fields.{part-rest, field-past, field-none, field-is, field-other, used-within}
 use Rattle.text.proofs.field.Statement.{statement}

@@ -10,7 +10,7 @@ use Rattle.rule.specs.declared.Reason.{Reason}
 use Rattle.rule.specs.Sets.{In}
 use Rattle.rule.specs.Books.{ProfileRange, BodiesRange, capacity}
 use Rattle.text.specs.declared.Numbered.{Numbered}
-use Rattle.text.specs.Due.{nothing, to-a, to-b, to-bodies, to-edges}
+use Rattle.text.specs.Due.{to-a, to-b, to-bodies, to-edges}
 use Rattle.text.specs.Judging.{reasonOf}
 use Rattle.text.specs.Judgements.{FaultAt}
 use Rattle.text.proofs.Heads.{Stands, stands-first, line-a, fault-a, line-b, fault-b, line-bodies, fault-bodies, line-edges, fault-edges}

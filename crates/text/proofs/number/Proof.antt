@@ -1,7 +1,7 @@
 -- `text::number` meets its contract: its loop keeps `Turned`, of proofs/Scans.antt. Assumes nothing.
 use borrow.Author.Needs.{needs}
 use native.Mathlib.Omega.{arith}
-use mathlib.Core.Path.{_≡_, sym, ap, _∙_}
+use mathlib.Core.Path.{sym, ap, _∙_}
 use Prim.Native.Nat.{_-_}
 use Rattle.text.specs.Readings.{digitOf, readNumber}
 use Rattle.text.proofs.Picks.{pick-eq}

@@ -1,7 +1,6 @@
 -- `text::walk` meets its contract: its loop keeps `Walked`, of proofs/Walks.antt. Assumes nothing.
 use borrow.Author.Needs.{needs}
-use native.Mathlib.Omega.{arith}
-use mathlib.Core.Path.{_≡_, sym, _∙_}
+use mathlib.Core.Path.{sym, _∙_}
 use Prim.Native.Nat.{_-_}
 use Rattle.text.proofs.Walks.{Walked, walked-none, walked-on, walked-fault, walked-extra, walked-whole}
 use Rattle.text.proofs.walk.Statement.{statement}

@@ -2,15 +2,14 @@
 -- is n. Assumes nothing.
 use borrow.Author.Needs.{needs}
 use native.Mathlib.Omega.{arith}
-use mathlib.Core.Path.{_≡_, sym, ap, _∙_, subst}
-use mathlib.Core.List.{List, [], _∷_, _++_}
+use mathlib.Core.Path.{_≡_, sym, ap, _∙_}
+use mathlib.Core.List.{[], _∷_}
 use Prim.Native.Nat.{ℕ, _+_, _/_, _%_, _<_}
 use denote.Ref.{now}
-use lib.ListN.{length, set, length-append, length-set}
+use lib.ListN.{length, length-append, length-set}
 use borrow.Fn.Kinds.{In}
 use borrow.Fn.PlainCycle.{Measures, is, falls, and}
 use Rattle.text.specs.Lines.{digit, numeral}
-use Rattle.text.specs.Puts.{Writes}
 use Rattle.text.proofs.Numerals.{numeral-small, numeral-step, numeral-not-empty}
 use Rattle.text.proofs.Overwrites.{writes-as, writes-one, writes-more, writes-room, writes-length}
 use Rattle.text.proofs.put.number.Reads as number
