@@ -13,31 +13,21 @@ use Rattle.rule.specs.declared.Reason.the-variants.{Profile, Bodies, Full, Line
 use Rattle.rule.specs.Sets.{Is, In}
 use Rattle.rule.specs.Books.{ProfileRange, BodiesRange, capacity}
 use Rattle.rule.specs.Reasons.{numberOf, placeOf, Check, plain, Pass}
-use Rattle.rule.proofs.Tests.{cases, never, by-le, le-is, le-of}
+use Rattle.rule.proofs.Tests.{cases}
 use Rattle.text.specs.declared.Reading.{Reading}
 use Rattle.text.specs.declared.Reading.the-variants.{Value, Nothing}
 use Rattle.text.specs.declared.Numbered.{Numbered}
 use Rattle.text.specs.Lines.{key-a, key-b, key-bodies, key-edges}
-use Rattle.text.specs.Due.{Said, nothing, to-a, to-b, to-bodies, to-edges, linesOf, numberLine, due}
+use Rattle.text.specs.Due.{Said, nothing, to-a, to-b, to-bodies, to-edges, linesOf, numberLine, FirstRange, due}
 use Rattle.text.specs.Faults.{Next, Leads, here, Ended, AtFault, other, fails}
 use Rattle.text.specs.Readings.{readNumberLine}
 use Rattle.text.specs.Judging.{within, ranged, readNumbered}
 use Rattle.text.specs.Judgements.{FaultAt}
-use Rattle.text.proofs.Picks.{pick-is, pick-not, pick-lt, pick-ge}
+use Rattle.text.proofs.Picks.{pick-is, pick-not}
+use Rattle.text.proofs.Ranges.{within-of, within-is, in-within, first-within, within-first, second-within, within-profile}
 use Rattle.text.proofs.LineReads.{NumberLineAt, number-line-sound, number-line-none}
 use Rattle.text.proofs.Runs.{leads-more}
 use Rattle.text.proofs.Outcomes.{first-fault}
-
--- ---- the test
-
-pub within-of : (low high x : ℕ) → Is (within low high x) → (low ≤ x) × (x ≤ high)
-unfolding within
-within-of low high x h =
-    by-le low x (λ l. (l, le-of x high (sym (pick-ge x low _ _ l) ∙ h))) (λ l. never (sym (pick-lt x low _ _ l) ∙ h))
-
-pub within-is : (low high x : ℕ) → low ≤ x → x ≤ high → Is (within low high x)
-unfolding within
-within-is low high x l h = pick-ge x low _ _ l ∙ le-is x high h
 
 -- ---- a number line
 
@@ -113,34 +103,31 @@ stands-fault {text} {at} {said} reason s bad = first-fault text at said reason (
 
 -- ---- the four lines
 
--- the range of a line, as the test asks it
-in-within : (high x : ℕ) → In high x → Is (within 1 high x)
-in-within high x h = within-is 1 high x (h .low) (h .high)
-
 module _ {text : List ℕ} {at : ℕ} where
-  pub line-a : (a next : ℕ) → Stands text at nothing → readNumbered key-a 1 3 Profile text at ≡ Numbered.Value a next → In 3 a × Stands text next (to-a a)
+  pub line-a : (a next : ℕ) → Stands text at nothing → readNumbered key-a 1 3 Profile text at ≡ Numbered.Value a next → FirstRange a × Stands text next (to-a a)
   unfolding due
   line-a a next s e =
       let f = numbered-sound key-a 1 3 Profile text at a next e in
-      (numbered-in f, stands-on s a next (numbered-next f) (f .there .within) (numbered-in f, tt))
+      let range = within-first (f .from) (f .to) in
+      (range, stands-on s a next (numbered-next f) (f .there .within) (range, tt))
 
   pub fault-a : (reason : Reason) → Stands text at nothing → readNumbered key-a 1 3 Profile text at ≡ Numbered.Refused reason → FaultAt text reason 1 at
   unfolding due linesOf
   fault-a reason s e =
-      stands-fault reason s (numbered-fault key-a 1 3 Profile _ _ (λ v h. in-within 3 v h) refl text at reason _ (s .within) (λ end. end) e)
+      stands-fault reason s (numbered-fault key-a 1 3 Profile _ _ first-within refl text at reason _ (s .within) (λ end. end) e)
 
-  pub line-b : (a b next : ℕ) → In 3 a → Stands text at (to-a a) → readNumbered key-b 1 3 Profile text at ≡ Numbered.Value b next
+  pub line-b : (a b next : ℕ) → FirstRange a → Stands text at (to-a a) → readNumbered key-b 1 3 Profile text at ≡ Numbered.Value b next
       → ProfileRange a b × Stands text next (to-b a b)
   unfolding due
   line-b a b next ra s e =
       let f = numbered-sound key-b 1 3 Profile text at b next e in
-      let range : ProfileRange a b = (ra, numbered-in f) in
+      let range = within-profile ra (f .from) (f .to) in
       (range, stands-on s b next (numbered-next f) (f .there .within) (range, tt))
 
   pub fault-b : (a : ℕ) (reason : Reason) → Stands text at (to-a a) → readNumbered key-b 1 3 Profile text at ≡ Numbered.Refused reason → FaultAt text reason 2 at
   unfolding due linesOf
   fault-b a reason s e =
-      stands-fault reason s (numbered-fault key-b 1 3 Profile _ _ (λ v h. in-within 3 v (h .1)) refl text at reason _ (s .within) (λ end. end) e)
+      stands-fault reason s (numbered-fault key-b 1 3 Profile _ _ second-within refl text at reason _ (s .within) (λ end. end) e)
 
   pub line-bodies : (a b n next : ℕ) → Stands text at (to-b a b) → readNumbered key-bodies 1 64 Bodies text at ≡ Numbered.Value n next
       → BodiesRange n × Stands text next (to-bodies a b n)
@@ -154,7 +141,7 @@ module _ {text : List ℕ} {at : ℕ} where
   unfolding due linesOf
   fault-bodies a b reason s e =
       stands-fault reason s
-      (numbered-fault key-bodies 1 64 Bodies _ _ (λ v h. in-within 64 v h) refl text at reason _ (s .within) (λ end. end) e)
+      (numbered-fault key-bodies 1 64 Bodies _ _ (in-within 64) refl text at reason _ (s .within) (λ end. end) e)
 
   pub line-edges : (a b n m next : ℕ) → Stands text at (to-bodies a b n) → readNumbered key-edges 0 capacity Full text at ≡ Numbered.Value m next
       → (m ≤ capacity) × Stands text next (to-edges a b n m [])

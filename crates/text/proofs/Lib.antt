@@ -1,4 +1,5 @@
 pub mod Picks
+pub mod Ranges
 pub mod Numerals
 pub mod Scans
 pub mod Keys

@@ -11,15 +11,15 @@ use Rattle.rule.specs.declared.Reason.{Reason}
 use Rattle.rule.specs.Reasons.{Pass}
 use Rattle.rule.proofs.Determined.{pass-not-fail}
 use Rattle.text.specs.Due.{Said, nothing, to-a, to-b, to-bodies, to-edges, due}
-use Rattle.text.specs.Faults.{Next, Leads, here, line, Ended, AtFault, other, fails}
+use Rattle.text.specs.Faults.{Next, Leads, here, one-line, Ended, AtFault, other, fails}
 use Rattle.text.proofs.Steps.{line-determined}
 
 -- ---- one line more at the end
 
 pub leads-more : {said last : Said} {rest left more : List ℕ} → Leads said rest last left → (value : due last .Value)
     → Next (due last) left value more → Pass (due last .checks value) → Leads said rest (due last .then value) more
-leads-more here value next pass = line value next pass here
-leads-more (line x n p l) value next pass = line x n p (leads-more l value next pass)
+leads-more here value next pass = one-line value next pass here
+leads-more (one-line x n p l) value next pass = one-line x n p (leads-more l value next pass)
 
 -- ---- stuck
 
@@ -49,9 +49,9 @@ ended-stuck said rest e value more next pass = ended-none said rest e value more
 pub leads-determined : {said one two : Said} {rest left gone : List ℕ} → Leads said rest one left → Leads said rest two gone → Stuck one left
     → Stuck two gone → (one ≡ two) × (left ≡ gone)
 leads-determined here here s t = (refl, refl)
-leads-determined here (line y n p l) s t = absurd (s y _ n p)
-leads-determined (line x n p l) here s t = absurd (t x _ n p)
-leads-determined {said} {one} {two} {rest} {left} {gone} (line {more = m} x n p l) (line {more = k} y o q j) s t =
+leads-determined here (one-line y n p l) s t = absurd (s y _ n p)
+leads-determined (one-line x n p l) here s t = absurd (t x _ n p)
+leads-determined {said} {one} {two} {rest} {left} {gone} (one-line {more = m} x n p l) (one-line {more = k} y o q j) s t =
     let same = line-determined said rest x y m k n o in
     leads-determined l
     (subst₂ (λ (v : due said .Value) (r : List ℕ). Leads (due said .then v) r two gone) (sym (same .0)) (sym (same .1)) j) s t

@@ -13,7 +13,8 @@ use Rattle.rule.specs.Reasons.{Pass}
 use Rattle.text.specs.Lines.{line, key-a, key-b, key-bodies, key-edges}
 use Rattle.text.specs.Sheets.{Edge, Sheet, EdgeRange, EdgesRange, SheetRange, edgeText, edgesText, headText, textOf}
 use Rattle.text.specs.Due.{Said, nothing, to-a, to-b, to-bodies, to-edges, FirstRange, due}
-use Rattle.text.specs.Faults.{Next, Leads, here, line as one-line, Ended}
+use Rattle.text.proofs.Ranges.{first-small, second-small, profile-first}
+use Rattle.text.specs.Faults.{Next, Leads, here, one-line, Ended}
 
 -- ---- lists of edges
 
@@ -116,9 +117,10 @@ head-leads : (a b n m : ℕ) (rest : List ℕ) → ProfileRange a b → BodiesRa
     → Leads nothing (headText a b n m ++ rest) (to-edges a b n m []) rest
 unfolding due
 head-leads a b n m rest p q h =
+    let first = profile-first p in
     subst (λ (text : List ℕ). Leads nothing text (to-edges a b n m []) rest) (sym (head-apart a b n m rest))
-    (one-line {said = nothing} a (record { allowed = omega (arith, p .0 .high); begins = refl }) (p .0, tt)
-    (one-line {said = to-a a} b (record { allowed = omega (arith, p .1 .high); begins = refl }) (p, tt)
+    (one-line {said = nothing} a (record { allowed = omega (arith, first-small first); begins = refl }) (first, tt)
+    (one-line {said = to-a a} b (record { allowed = omega (arith, second-small p); begins = refl }) (p, tt)
     (one-line {said = to-b a b} n (record { allowed = omega (arith, q .high); begins = refl }) (q, tt)
     (one-line {said = to-bodies a b n} m (record { allowed = omega arith; begins = refl }) (h, tt) here))))
 

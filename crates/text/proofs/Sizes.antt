@@ -12,6 +12,7 @@ use Rattle.rule.specs.Books.{BodiesRange}
 use Rattle.text.specs.Lines.{numeral, comma, listed, line, key-a, key-b, key-bodies, key-edges}
 use Rattle.text.specs.Sheets.{Edge, Sheet, EdgeRange, EdgesRange, SheetRange, keyOf, edgeText, edgesText, headText, textOf, textRoom}
 use Rattle.text.proofs.Numerals.{numeral-few}
+use Rattle.text.proofs.Ranges.{first-small, second-small, profile-first}
 use Rattle.text.proofs.EdgeReads.{key-of-red, key-of-black}
 
 line-length : (key values : List ℕ) → length (line key values) ≡ length key + (length (listed values) + 1)
@@ -52,8 +53,8 @@ head-length s r =
     simp length-append
     (omega (
       arith,
-      number-line-length key-a (s .a) 1 (numeral-few 0 (s .a) (omega (arith, r .profile .0 .high))),
-      number-line-length key-b (s .b) 1 (numeral-few 0 (s .b) (omega (arith, r .profile .1 .high))),
+      number-line-length key-a (s .a) 1 (numeral-few 0 (s .a) (omega (arith, first-small (profile-first (r .profile))))),
+      number-line-length key-b (s .b) 1 (numeral-few 0 (s .b) (omega (arith, second-small (r .profile)))),
       number-line-length key-bodies (s .n) 2 (numeral-few 1 (s .n) (omega (arith, r .bodies .high))),
       number-line-length key-edges m 3 (numeral-few 2 m (omega (arith, r .few))),
     ))

@@ -3,14 +3,13 @@
 -- In order: each kind of line that is due (specs/Due.antt) is decided and determined; each due line is; its checks are.
 -- Assumes nothing.
 use mathlib.Core.Path.{_≡_, refl, sym, _∙_}
-use mathlib.Core.Logic.{inl, inr, Dec·and}
+use mathlib.Core.Logic.{inl, inr}
 use mathlib.Core.List.{List, [], _∷_}
 use Prim.Native.Nat.{ℕ, _≤_, _<_}
 use native.Mathlib.Omega.{arith}
 use lib.ListN.{length, drop}
 use Rattle.rule.specs.declared.Reason.{Reason}
 use Rattle.rule.specs.declared.Reason.the-variants.{Profile, Bodies, Body, SameBody, Full}
-use Rattle.rule.specs.Sets.{In}
 use Rattle.rule.specs.Books.{capacity}
 use Rattle.rule.specs.Reasons.{numberOf, placeOf, Check, plain, Pass, Fail}
 use Rattle.rule.proofs.Tests.{by-le, by-eq}
@@ -24,6 +23,7 @@ use Rattle.text.specs.Sheets.{Edge}
 use Rattle.text.specs.Due.{Said, nothing, to-a, to-b, to-bodies, to-edges, DueLine, numberLine, edgeLine, due}
 use Rattle.text.specs.Faults.{Next}
 use Rattle.text.specs.Readings.{readNumberLine, readEdge}
+use Rattle.text.proofs.Ranges.{le-dec, in-dec, both-dec, first-dec, profile-dec}
 use Rattle.text.proofs.LineReads.{number-line-determined, number-line-sound, number-line-none}
 use Rattle.text.proofs.EdgeReads.{edge-determined, edge-sound, edge-none}
 
@@ -98,20 +98,12 @@ checked-one reason q (yes h) (pass p) = pass (h, p)
 checked-one reason q (yes h) (fail why f) = fail why (inr (h, f))
 checked-one reason q (no h) c = fail reason (inl (h, refl, q))
 
-in-dec : (m i : ℕ) → Dec (In m i)
-in-dec m i =
-    by-le 1 i (λ low. by-le i m (λ high. yes (record { low = low; high = high })) (λ above. no (λ h. absurd (omega (arith, h .high)))))
-    (λ below. no (λ h. absurd (omega (arith, h .low))))
-
-both-dec : (m i j : ℕ) → Dec (In m i × In m j)
-both-dec m i j = Dec·and (in-dec m i) (in-dec m j)
-
 pub line-checked : (said : Said) (value : due said .Value) → Checked (due said .checks value)
 unfolding due
-line-checked nothing a = checked-one Profile refl (in-dec 3 a) checked-none
-line-checked (to-a a) b = checked-one Profile refl (both-dec 3 a b) checked-none
+line-checked nothing a = checked-one Profile refl (first-dec a) checked-none
+line-checked (to-a a) b = checked-one Profile refl (profile-dec a b) checked-none
 line-checked (to-b a b) n = checked-one Bodies refl (in-dec 64 n) checked-none
-line-checked (to-bodies a b n) m = checked-one Full refl (by-le m capacity (λ h. yes h) (λ h. no (λ k. absurd (omega arith)))) checked-none
+line-checked (to-bodies a b n) m = checked-one Full refl (le-dec m capacity) checked-none
 line-checked (to-edges a b n m before) e =
     checked-one Body refl (both-dec n (e .one) (e .other))
     (checked-one SameBody refl (by-eq (e .one) (e .other) (λ h. no (λ k. k h)) (λ h. yes h)) checked-none)

@@ -11,7 +11,7 @@ use native.Mathlib.Omega.{arith}
 use lib.ListN.{length, drop, length-append, length-drop, drop-of-length-le}
 use Rattle.rule.specs.declared.Reason.{Reason}
 use Rattle.rule.specs.declared.Reason.the-variants.{Body, SameBody, Line}
-use Rattle.rule.specs.Sets.{Is, In}
+use Rattle.rule.specs.Sets.{In}
 use Rattle.rule.specs.Reasons.{Fail}
 use Rattle.rule.proofs.Tests.{cases, by-eq}
 use Rattle.text.specs.declared.EdgeLine.{EdgeLine}
@@ -26,17 +26,12 @@ use Rattle.text.specs.Readings.{readEdge}
 use Rattle.text.specs.Judging.{within, joined, readStep}
 use Rattle.text.specs.Judgements.{edgePlace, IsSheet, FaultAt, IsHead}
 use Rattle.text.proofs.Picks.{pick-is, pick-not, pick-eq, pick-ne}
+use Rattle.text.proofs.Ranges.{within-in, in-within}
 use Rattle.text.proofs.EdgeReads.{EdgeAt, edge-sound, edge-none}
 use Rattle.text.proofs.SheetRuns.{ended-sheet, head-place}
-use Rattle.text.proofs.Heads.{within-of, within-is, Stands, stands-on, stands-fault}
+use Rattle.text.proofs.Heads.{Stands, stands-on, stands-fault}
 
 -- ---- an edge line
-
-within-in : (n x : ℕ) → Is (within 1 n x) → In n x
-within-in n x h = let r = within-of 1 n x h in record { low = r .0; high = r .1 }
-
-in-within : (n x : ℕ) → In n x → Is (within 1 n x)
-in-within n x h = within-is 1 n x (h .low) (h .high)
 
 -- what the checks say of an edge
 data Ends (n : ℕ) (e : Edge) (next : ℕ) : Step → Type 0 where

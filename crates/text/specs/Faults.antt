@@ -23,7 +23,7 @@ pub record Next (line : DueLine) (rest : List ℕ) (value : line .Value) (more :
 -- from what was said and the rest of a text, lines that are due and in range lead to what is then said and what then is left
 pub data Leads : Said → List ℕ → Said → List ℕ → Type 0 where
   here : {said : Said} {rest : List ℕ} → Leads said rest said rest
-  line : {said last : Said} {rest more left : List ℕ} (value : due said .Value) → Next (due said) rest value more
+  one-line : {said last : Said} {rest more left : List ℕ} (value : due said .Value) → Next (due said) rest value more
       → Pass (due said .checks value) → Leads (due said .then value) more last left → Leads said rest last left
 
 -- all lines have come, and nothing follows
@@ -36,10 +36,10 @@ Ended (to-edges a b n m edges) rest = (length edges ≡ m) × (rest ≡ [])
 
 -- the next line is at fault, where the text has not ended: it is not the one due (9, which comes first), or it is and a check on it
 -- fails
-pub data AtFault (due : DueLine) (ended : Type 0) (rest : List ℕ) : Reason → Type 0 where
-  other : ((value : due .Value) (more : List ℕ) → ¬ Next due rest value more) → ¬ ended → AtFault due ended rest Line
-  fails : {reason : Reason} (value : due .Value) (more : List ℕ) → Next due rest value more → Fail (due .checks value) reason
-      → AtFault due ended rest reason
+pub data AtFault (line : DueLine) (ended : Type 0) (rest : List ℕ) : Reason → Type 0 where
+  other : ((value : line .Value) (more : List ℕ) → ¬ Next line rest value more) → ¬ ended → AtFault line ended rest Line
+  fails : {reason : Reason} (value : line .Value) (more : List ℕ) → Next line rest value more → Fail (line .checks value) reason
+      → AtFault line ended rest reason
 
 -- a line number, counted from 1, a reason, and a part of the text
 pub record Fault : Type 0 where

@@ -120,7 +120,7 @@ pub fn number(s: &[u8], most: usize) -> Reading
 }
 
 // The number of one to three digits at a place of a text, with the byte `stop` after it.
-fn field(text: &[u8], at: usize, stop: u8) -> Reading
+pub fn field(text: &[u8], at: usize, stop: u8) -> Reading
     ensures { λ r. ⌜ r ≡ readField stop (now (text .entry)) at ⌝ }
 {
     if text.len() < at {

@@ -7,12 +7,12 @@ use mathlib.Core.List.{List, []}
 use Prim.Native.Nat.{ℕ, _≤_}
 use denote.Ref.{now}
 use Rattle.rule.specs.declared.Reason.{Reason}
-use Rattle.rule.specs.Sets.{In}
 use Rattle.rule.specs.Books.{ProfileRange, BodiesRange, capacity}
 use Rattle.text.specs.declared.Numbered.{Numbered}
-use Rattle.text.specs.Due.{to-a, to-b, to-bodies, to-edges}
+use Rattle.text.specs.Due.{to-a, to-b, to-bodies, to-edges, FirstRange}
 use Rattle.text.specs.Judging.{reasonOf}
 use Rattle.text.specs.Judgements.{FaultAt}
+use Rattle.text.proofs.Ranges.{first-small, second-small}
 use Rattle.text.proofs.Heads.{Stands, stands-first, line-a, fault-a, line-b, fault-b, line-bodies, fault-bodies, line-edges, fault-edges}
 use Rattle.text.proofs.head_of.Statement.{statement}
 use Rattle.text.proofs.head_of.Tie as tie
@@ -46,7 +46,7 @@ abbrev first : tie.After-known-told4 → ℕ
 first c = c .before .four .given .0 .1 .0
 
 -- Each line is in range, and the text stands past it.
-after-a : (c : tie.After-known-told) → In 3 (a c) × Stands (text c) (second c) (to-a (a c))
+after-a : (c : tie.After-known-told) → FirstRange (a c) × Stands (text c) (second c) (to-a (a c))
 after-a c = line-a _ _ (stands-first _) (sym (c .before .before .before .number-in .ensures) ∙ c .before .one .given .1)
 
 after-b : (c : tie.After-known-told2)
@@ -161,10 +161,10 @@ returns-4 c =
     (fault-edges _ _ _ _ (after-bodies (told .before .before .before .before) .1) (sym (told .before .before .number-in4 .ensures) ∙ e))
 
 cast-t31 : tie.Need-cast-t31
-cast-t31 c = omega (arith, after-a (c .before .before .before .before .before .before .before .before .before .before .before .before .before .before .before) .0 .high)
+cast-t31 c = omega (arith, first-small (after-a (c .before .before .before .before .before .before .before .before .before .before .before .before .before .before .before) .0))
 
 cast-t32 : tie.Need-cast-t32
-cast-t32 c = omega (arith, after-b (c .before .before .before .before .before .before .before .before .before .before) .0 .1 .high)
+cast-t32 c = omega (arith, second-small (after-b (c .before .before .before .before .before .before .before .before .before .before) .0))
 
 cast-t33 : tie.Need-cast-t33
 cast-t33 c = omega (arith, after-bodies (c .before .before .before .before .before) .0 .high)
