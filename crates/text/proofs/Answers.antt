@@ -40,8 +40,10 @@ named p = λ i. Judgement.Sheet (p .a-is i) (p .b-is i) (p .n-is i) (p .edges-is
 pub judge-determined : (text : List ℕ) (x y : Judgement) → Judges text x → Judges text y → x ≡ y
 judge-determined text (Judgement.Sheet a b n m first) (Judgement.Sheet c d k l start) p q =
     named p ∙ ap answerOf (same-sheet text (p .sheet) (q .sheet) (p .range) (q .range) (p .is-text) (q .is-text)) ∙ sym (named q)
-judge-determined text (Judgement.Sheet a b n m first) (Judgement.Refused r line) p q = never-both text (p .sheet) (q .0) (p .range) (p .is-text) (q .1)
-judge-determined text (Judgement.Refused r line) (Judgement.Sheet a b n m first) p q = never-both text (q .sheet) (p .0) (q .range) (q .is-text) (p .1)
+judge-determined text (Judgement.Sheet a b n m first) (Judgement.Refused r line) p q =
+    never-both text (p .sheet) (q .0) (p .range) (p .is-text) (q .1)
+judge-determined text (Judgement.Refused r line) (Judgement.Sheet a b n m first) p q =
+    never-both text (q .sheet) (p .0) (q .range) (q .is-text) (p .1)
 judge-determined text (Judgement.Refused r line) (Judgement.Refused x number) p q =
     let f = fault-determined text (p .0) (q .0) (p .1) (q .1) in
     ap₂ Judgement.Refused (p .2 ∙ ap (λ (g : Fault). g .reason) f ∙ sym (q .2)) (p .3 ∙ ap (λ (g : Fault). g .line) f ∙ sym (q .3))
@@ -117,7 +119,11 @@ walk-on {text} p i h =
     let there = ap (drop (edgePlace s i)) (p .is-text) ∙ place-splits s i (omega (arith, p .edges-is)) in
     let range = edge-range (s .n) (s .edges) i blank (r .edges) (omega (arith, p .edges-is)) in
     let written : Written (edgeAt s i) =
-    record { one = omega (arith, range .one .high, r .bodies .high); other = omega (arith, range .other .high, r .bodies .high); colour = range .colour } in
+    record {
+      one = omega (arith, range .one .high, r .bodies .high);
+      other = omega (arith, range .other .high, r .bodies .high);
+      colour = range .colour;
+    } in
     edge-complete text (edgePlace s i) (edgeAt s i) _ (omega (arith, place-within s i, ap length (p .is-text))) written there
     ∙ ap (joins (edgeAt s i)) (place-next s i (omega (arith, p .edges-is)))
 

@@ -114,9 +114,10 @@ field-there stop text at v k h l b f =
     sym (byte-after text (numeral v) (f .rest) at (f .begins)) ∙ ap (λ (i : ℕ). getD text i 0) (sym place) ∙ b in
     let rest = first-is (f .rest) stop h first in
     let left : drop (at + k) text ≡ f .rest = ap (λ (i : ℕ). drop i text) place ∙ past-front text (numeral v) (f .rest) at (f .begins) in
+    let more = ap (drop 1) (sym left) ∙ drop-drop 1 (at + k) text in
     record {
       small = f .small;
-      begins = f .begins ∙ ap (λ (s : List ℕ). numeral v ++ s) (rest ∙ ap (λ (s : List ℕ). stop ∷ s) (ap (drop 1) (sym left) ∙ drop-drop 1 (at + k) text));
+      begins = f .begins ∙ ap (λ (s : List ℕ). numeral v ++ s) (rest ∙ ap (λ (s : List ℕ). stop ∷ s) more);
       past = ap (λ (i : ℕ). i + 1) place;
       within = omega (arith, f .uses, ap length rest, ap length (f .begins), length-append (numeral v) (f .rest), length-drop at text);
     }

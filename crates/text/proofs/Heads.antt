@@ -19,7 +19,7 @@ use Rattle.text.specs.declared.Reading.the-variants.{Value, Nothing}
 use Rattle.text.specs.declared.Numbered.{Numbered}
 use Rattle.text.specs.Lines.{key-a, key-b, key-bodies, key-edges}
 use Rattle.text.specs.Due.{Said, nothing, to-a, to-b, to-bodies, to-edges, linesOf, numberLine, FirstRange, due}
-use Rattle.text.specs.Faults.{Next, Leads, here, Ended, AtFault, other, fails}
+use Rattle.text.specs.Faults.{Next, Leads, here, AtFault, Faulty, other, fails}
 use Rattle.text.specs.Readings.{readNumberLine}
 use Rattle.text.specs.Judging.{within, ranged, readNumbered}
 use Rattle.text.specs.Judgements.{FaultAt}
@@ -65,7 +65,8 @@ module _ (key : List ℕ) (low high : ℕ) (why : Reason) where
             → AtFault (numberLine key then (λ v. plain (numberOf why) (must v) ∷ [])) ended (drop at text) reason
         go Nothing q h =
             let is : Line ≡ reason = cc in
-            subst (AtFault _ ended (drop at text)) is (other (λ n more next. number-line-none key text at l q n more (next .allowed) (next .begins)) going)
+            let absent = number-line-none key text at l q in
+            subst (AtFault _ ended (drop at text)) is (other (λ n more next. absent n more (next .allowed) (next .begins)) going)
         go (Value v place) q h =
             cases (within low high v) (λ i. let z : _≡_ {A = ℕ} 0 1 = cc (sym (pick-is _ _ _ i) ∙ h) in absurd (omega arith))
             (λ i.
@@ -98,20 +99,22 @@ pub stands-on : {text : List ℕ} {at : ℕ} {said : Said} → Stands text at sa
 stands-on s value next is l pass = record { within = l; leads = leads-more (s .leads) value is pass }
 
 pub stands-fault : {text : List ℕ} {at : ℕ} {said : Said} (reason : Reason) → Stands text at said
-    → AtFault (due said) (Ended said (drop at text)) (drop at text) reason → FaultAt text reason (suc (linesOf said)) at
+    → Faulty said (drop at text) reason → FaultAt text reason (suc (linesOf said)) at
 stands-fault {text} {at} {said} reason s bad = first-fault text at said reason (s .within) (s .leads) bad
 
 -- ---- the four lines
 
 module _ {text : List ℕ} {at : ℕ} where
-  pub line-a : (a next : ℕ) → Stands text at nothing → readNumbered key-a 1 3 Profile text at ≡ Numbered.Value a next → FirstRange a × Stands text next (to-a a)
+  pub line-a : (a next : ℕ) → Stands text at nothing → readNumbered key-a 1 3 Profile text at ≡ Numbered.Value a next
+      → FirstRange a × Stands text next (to-a a)
   unfolding due
   line-a a next s e =
       let f = numbered-sound key-a 1 3 Profile text at a next e in
       let range = within-first (f .from) (f .to) in
       (range, stands-on s a next (numbered-next f) (f .there .within) (range, tt))
 
-  pub fault-a : (reason : Reason) → Stands text at nothing → readNumbered key-a 1 3 Profile text at ≡ Numbered.Refused reason → FaultAt text reason 1 at
+  pub fault-a : (reason : Reason) → Stands text at nothing → readNumbered key-a 1 3 Profile text at ≡ Numbered.Refused reason
+      → FaultAt text reason 1 at
   unfolding due linesOf
   fault-a reason s e =
       stands-fault reason s (numbered-fault key-a 1 3 Profile _ _ first-within refl text at reason _ (s .within) (λ end. end) e)
@@ -124,7 +127,8 @@ module _ {text : List ℕ} {at : ℕ} where
       let range = within-profile ra (f .from) (f .to) in
       (range, stands-on s b next (numbered-next f) (f .there .within) (range, tt))
 
-  pub fault-b : (a : ℕ) (reason : Reason) → Stands text at (to-a a) → readNumbered key-b 1 3 Profile text at ≡ Numbered.Refused reason → FaultAt text reason 2 at
+  pub fault-b : (a : ℕ) (reason : Reason) → Stands text at (to-a a) → readNumbered key-b 1 3 Profile text at ≡ Numbered.Refused reason
+      → FaultAt text reason 2 at
   unfolding due linesOf
   fault-b a reason s e =
       stands-fault reason s (numbered-fault key-b 1 3 Profile _ _ second-within refl text at reason _ (s .within) (λ end. end) e)
@@ -150,7 +154,8 @@ module _ {text : List ℕ} {at : ℕ} where
       let f = numbered-sound key-edges 0 capacity Full text at m next e in
       (f .to, stands-on s m next (numbered-next f) (f .there .within) (f .to, tt))
 
-  pub fault-edges : (a b n : ℕ) (reason : Reason) → Stands text at (to-bodies a b n) → readNumbered key-edges 0 capacity Full text at ≡ Numbered.Refused reason
+  pub fault-edges : (a b n : ℕ) (reason : Reason) → Stands text at (to-bodies a b n)
+      → readNumbered key-edges 0 capacity Full text at ≡ Numbered.Refused reason
       → FaultAt text reason 4 at
   unfolding due linesOf
   fault-edges a b n reason s e =

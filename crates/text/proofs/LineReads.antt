@@ -91,7 +91,8 @@ module _ (key : List ℕ) where
   unfolding readNumberLine
   number-line-none text at l e n more small q =
       let whole = q ∙ line-one key n more in
-      let found = pick-is _ _ _ (key-found key text _ at l whole) ∙ field-complete LF LF-ends text (at + length key) n more small (past-front text key _ at whole) in
+      let number = field-complete LF LF-ends text (at + length key) n more small (past-front text key _ at whole) in
+      let found = pick-is _ _ _ (key-found key text _ at l whole) ∙ number in
       let both = sym e ∙ found in
       let z : _≡_ {A = ℕ} 0 1 = cc in
       absurd (omega arith)

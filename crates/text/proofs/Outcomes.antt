@@ -17,14 +17,14 @@ use Rattle.rule.proofs.Determined.{fail-determined}
 use Rattle.text.specs.Lines.{firstLine}
 use Rattle.text.specs.Sheets.{Sheet, SheetRange, textOf}
 use Rattle.text.specs.Due.{Said, nothing, to-a, to-b, to-bodies, to-edges, linesOf, due}
-use Rattle.text.specs.Faults.{Next, Leads, here, Ended, AtFault, other, fails, Fault, FirstFault}
+use Rattle.text.specs.Faults.{Next, Leads, here, Ended, Faulty, other, fails, Fault, FirstFault}
 use Rattle.text.proofs.Steps.{Line as Found, is-due, is-other, line-decided, line-determined, Checked, pass, fail, line-checked, line-single}
 use Rattle.text.proofs.Runs.{leads-more, fault-stuck, ended-none, ended-stuck, leads-determined}
 use Rattle.text.proofs.SheetRuns.{ended-sheet, sheet-leads, sheet-ended}
 
 -- ---- the first fault is determined
 
-reason-determined : (said : Said) {rest : List ℕ} {r q : Reason} → AtFault (due said) (Ended said rest) rest r → AtFault (due said) (Ended said rest) rest q → r ≡ q
+reason-determined : (said : Said) {rest : List ℕ} {r q : Reason} → Faulty said rest r → Faulty said rest q → r ≡ q
 reason-determined said (other none going) (other none′ going′) = refl
 reason-determined said (other none going) (fails x more n f) = absurd (none x more n)
 reason-determined said (fails x more n f) (other none going) = absurd (none x more n)
@@ -37,7 +37,7 @@ fault-determined text f g p q =
     let same = leads-determined (p .before) (q .before) (fault-stuck (p .said) (p .at-fault)) (fault-stuck (q .said) (q .at-fault)) in
     let lines : f .line ≡ g .line = p .number ∙ ap (λ (s : Said). suc (linesOf s)) (same .0) ∙ sym (q .number) in
     let reasons : f .reason ≡ g .reason =
-    reason-determined (q .said) (subst₂ (λ (s : Said) (rest : List ℕ). AtFault (due s) (Ended s rest) rest (f .reason)) (same .0) (same .1) (p .at-fault)) (q .at-fault) in
+    reason-determined (q .said) (subst₂ (λ (s : Said) (rest : List ℕ). Faulty s rest (f .reason)) (same .0) (same .1) (p .at-fault)) (q .at-fault) in
     let starts : f .start ≡ g .start =
     omega (arith, p .within, q .within, ap length (same .1), length-drop (f .start) text, length-drop (g .start) text) in
     let sizes : f .size ≡ g .size = p .part ∙ ap (λ (rest : List ℕ). length (firstLine rest)) (same .1) ∙ sym (q .part) in
@@ -62,7 +62,7 @@ sheet-determined s t p q e =
 
 -- ---- never both
 
-not-ended : (said : Said) {rest : List ℕ} {reason : Reason} → AtFault (due said) (Ended said rest) rest reason → ¬ Ended said rest
+not-ended : (said : Said) {rest : List ℕ} {reason : Reason} → Faulty said rest reason → ¬ Ended said rest
 not-ended said (other none going) e = going e
 not-ended said {rest} (fails x more n f) e = ended-none said rest e x more n
 
@@ -79,7 +79,7 @@ faultAt text at said reason =
     record { line = suc (linesOf said); reason = reason; start = at; size = length (firstLine (drop at text)) }
 
 pub first-fault : (text : List ℕ) (at : ℕ) (said : Said) (reason : Reason) → at ≤ length text → Leads nothing text said (drop at text)
-    → AtFault (due said) (Ended said (drop at text)) (drop at text) reason → FirstFault text (faultAt text at said reason)
+    → Faulty said (drop at text) reason → FirstFault text (faultAt text at said reason)
 first-fault text at said reason l run bad =
     record { said = said; within = l; before = run; number = refl; at-fault = bad; part = refl }
 

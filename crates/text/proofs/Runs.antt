@@ -11,7 +11,7 @@ use Rattle.rule.specs.declared.Reason.{Reason}
 use Rattle.rule.specs.Reasons.{Pass}
 use Rattle.rule.proofs.Determined.{pass-not-fail}
 use Rattle.text.specs.Due.{Said, nothing, to-a, to-b, to-bodies, to-edges, due}
-use Rattle.text.specs.Faults.{Next, Leads, here, one-line, Ended, AtFault, other, fails}
+use Rattle.text.specs.Faults.{Next, Leads, here, one-line, Ended, Faulty, other, fails}
 use Rattle.text.proofs.Steps.{line-determined}
 
 -- ---- one line more at the end
@@ -26,7 +26,7 @@ leads-more (one-line x n p l) value next pass = one-line x n p (leads-more l val
 abbrev pub Stuck : Said → List ℕ → Type 0
 Stuck said rest = (value : due said .Value) (more : List ℕ) → Next (due said) rest value more → ¬ Pass (due said .checks value)
 
-pub fault-stuck : (said : Said) {rest : List ℕ} {reason : Reason} → AtFault (due said) (Ended said rest) rest reason → Stuck said rest
+pub fault-stuck : (said : Said) {rest : List ℕ} {reason : Reason} → Faulty said rest reason → Stuck said rest
 fault-stuck said (other none going) value more next pass = none value more next
 fault-stuck said {rest} {reason} (fails x r n f) value more next pass =
     let same = line-determined said rest value x more r next n in

@@ -128,7 +128,8 @@ head-leads a b n m rest p q h =
 edges-lead : (a b n m : ℕ) (before after : List Edge) → BodiesRange n → length before + length after ≤ m → EdgesRange n after
     → Leads (to-edges a b n m before) (edgesText after) (to-edges a b n m (before ++ after)) []
 unfolding due edgesText
-edges-lead a b n m before [] q h r = subst (λ (es : List Edge). Leads (to-edges a b n m before) [] (to-edges a b n m es) []) (sym (append-nil before)) here
+edges-lead a b n m before [] q h r =
+    subst (λ (es : List Edge). Leads (to-edges a b n m before) [] (to-edges a b n m es) []) (sym (append-nil before)) here
 edges-lead a b n m before (e ∷ after) q h r =
     let edge = r .0 in
     one-line {said = to-edges a b n m before} e

@@ -60,7 +60,8 @@ module _ (a b n m : ℕ) (before : List Edge) where
       go some EdgeLine.Nothing e = is-other (λ x more h. edge-none text at l e x more (h .allowed .1) (h .begins))
       go some (Joins u v c place) e =
           let f = edge-sound text at u v c place e in
-          is-due (record { one = u; other = v; colour = c }) place (record { allowed = (some, f .written); begins = f .begins }) (f .past) (f .within)
+          let edge : Edge = record { one = u; other = v; colour = c } in
+          is-due edge place (record { allowed = (some, f .written); begins = f .begins }) (f .past) (f .within)
 
   edge-line-determined : Determined (edgeLine a b n m before)
   edge-line-determined rest e f r q h k = edge-determined e f r q (h .allowed .1) (k .allowed .1) (sym (h .begins) ∙ k .begins)
@@ -93,7 +94,8 @@ checked-none : Checked []
 checked-none = pass tt
 
 -- one check more in front, which says the reason where it fails
-checked-one : {must : Type 0} {cs : List Check} (reason : Reason) → placeOf reason ≡ 0 → Dec must → Checked cs → Checked (plain (numberOf reason) must ∷ cs)
+checked-one : {must : Type 0} {cs : List Check} (reason : Reason) → placeOf reason ≡ 0 → Dec must → Checked cs
+    → Checked (plain (numberOf reason) must ∷ cs)
 checked-one reason q (yes h) (pass p) = pass (h, p)
 checked-one reason q (yes h) (fail why f) = fail why (inr (h, f))
 checked-one reason q (no h) c = fail reason (inl (h, refl, q))

@@ -21,7 +21,7 @@ use Rattle.text.specs.declared.Step.{Step}
 use Rattle.text.specs.declared.Step.the-variants.{On}
 use Rattle.text.specs.Sheets.{Edge, EdgeRange, edgesText, headText}
 use Rattle.text.specs.Due.{to-edges, linesOf, edgeLine, due}
-use Rattle.text.specs.Faults.{Ended, AtFault, other, fails}
+use Rattle.text.specs.Faults.{AtFault, Faulty, other, fails}
 use Rattle.text.specs.Readings.{readEdge}
 use Rattle.text.specs.Judging.{within, joined, readStep}
 use Rattle.text.specs.Judgements.{edgePlace, IsSheet, FaultAt, IsHead}
@@ -138,7 +138,7 @@ module _ {text : List ℕ} {h : Head} where
 
   -- the number of the line that is due
   walked-line : {at i : ℕ} (w : Walked text h at i) (reason : Reason)
-      → AtFault (due (to-edges (h .a) (h .b) (h .n) (h .edges) (w .edges))) (Ended (to-edges (h .a) (h .b) (h .n) (h .edges) (w .edges)) (drop at text)) (drop at text) reason
+      → Faulty (to-edges (h .a) (h .b) (h .n) (h .edges) (w .edges)) (drop at text) reason
       → FaultAt text reason (i + 5) at
   unfolding linesOf
   walked-line {at} {i} w reason bad =

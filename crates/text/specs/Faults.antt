@@ -41,6 +41,10 @@ pub data AtFault (line : DueLine) (ended : Type 0) (rest : List ℕ) : Reason �
   fails : {reason : Reason} (value : line .Value) (more : List ℕ) → Next line rest value more → Fail (line .checks value) reason
       → AtFault line ended rest reason
 
+-- the line after what was said is at fault
+abbrev pub Faulty : Said → List ℕ → Reason → Type 0
+Faulty said rest reason = AtFault (due said) (Ended said rest) rest reason
+
 -- a line number, counted from 1, a reason, and a part of the text
 pub record Fault : Type 0 where
   pub line : ℕ
@@ -55,5 +59,5 @@ pub record FirstFault (text : List ℕ) (f : Fault) : Type 0 where
   pub within : f .start ≤ length text
   pub before : Leads nothing text said (drop (f .start) text)
   pub number : f .line ≡ suc (linesOf said)
-  pub at-fault : AtFault (due said) (Ended said (drop (f .start) text)) (drop (f .start) text) (f .reason)
+  pub at-fault : Faulty said (drop (f .start) text) (f .reason)
   pub part : f .size ≡ length (firstLine (drop (f .start) text))

@@ -32,7 +32,8 @@ enum-told : tie.Need-enum-told
 enum-told c = search needs
 
 -- what `number` has read
-read : (c : tie.After-number) → c .number .result ≡ readNumber 3 (drop (c .before .before .before .before .args .at) (now (c .before .before .before .before .args .text)))
+read : (c : tie.After-number)
+    → let a = c .before .before .before .before .args in c .number .result ≡ readNumber 3 (drop (a .at) (now (a .text)))
 read c = let a = c .before .before .before .before .args in c .number .ensures ∙ ap (readNumber 3) (part-rest (now (a .text)) (a .at))
 
 returns-2 : tie.Need-returns-2

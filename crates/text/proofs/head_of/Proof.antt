@@ -59,14 +59,18 @@ after-bodies : (c : tie.After-known-told3)
     → let k = c .before .before .before .before .before in
     let l = k .before .before .before .before .before in
     BodiesRange (n c) × Stands (text l) (fourth c) (to-bodies (a l) (b k) (n c))
-after-bodies c = line-bodies _ _ _ _ (after-b (c .before .before .before .before .before) .1) (sym (c .before .before .before .number-in3 .ensures) ∙ c .before .three .given .1)
+after-bodies c =
+    let l = after-b (c .before .before .before .before .before) in
+    line-bodies _ _ _ _ (l .1) (sym (c .before .before .before .number-in3 .ensures) ∙ c .before .three .given .1)
 
 after-edges : (c : tie.After-known-told4)
     → let j = c .before .before .before .before .before in
     let k = j .before .before .before .before .before in
     let l = k .before .before .before .before .before in
     (m c ≤ capacity) × Stands (text l) (first c) (to-edges (a l) (b k) (n j) (m c) [])
-after-edges c = line-edges _ _ _ _ _ (after-bodies (c .before .before .before .before .before) .1) (sym (c .before .before .before .number-in4 .ensures) ∙ c .before .four .given .1)
+after-edges c =
+    let l = after-bodies (c .before .before .before .before .before) in
+    line-edges _ _ _ _ _ (l .1) (sym (c .before .before .before .number-in4 .ensures) ∙ c .before .four .given .1)
 
 -- a refusal's reason is the one that `why` gives
 by-why : {r : Numbered} {w reason : Reason} {s : List ℕ} {line at : ℕ} → w ≡ reasonOf r → r ≡ Numbered.Refused reason
@@ -161,7 +165,9 @@ returns-4 c =
     (fault-edges _ _ _ _ (after-bodies (told .before .before .before .before) .1) (sym (told .before .before .number-in4 .ensures) ∙ e))
 
 cast-t31 : tie.Need-cast-t31
-cast-t31 c = omega (arith, first-small (after-a (c .before .before .before .before .before .before .before .before .before .before .before .before .before .before .before) .0))
+cast-t31 c =
+    let l = c .before .before .before .before .before .before .before .before .before .before in
+    omega (arith, first-small (after-a (l .before .before .before .before .before) .0))
 
 cast-t32 : tie.Need-cast-t32
 cast-t32 c = omega (arith, second-small (after-b (c .before .before .before .before .before .before .before .before .before .before) .0))

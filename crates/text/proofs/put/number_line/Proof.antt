@@ -28,7 +28,8 @@ sub-number : tie.Need-sub-number
 sub-number c =
     let d = c .before .before in
     let a = d .before .before .before .before in
-    omega (arith, d .bytes .ensures .number, writes-length (d .bytes .ensures) (omega (arith, a .pre, key-within (now (a .args .key)) (a .args .n))), a .pre, key-within (now (a .args .key)) (a .args .n))
+    let fits = key-within (now (a .args .key)) (a .args .n) in
+    omega (arith, d .bytes .ensures .number, writes-length (d .bytes .ensures) (omega (arith, a .pre, fits)), a .pre, fits)
 
 part-number-start : tie.Need-part-number-start
 part-number-start c = sub-number c
@@ -43,11 +44,13 @@ number-requires c κs =
     writes-rest (numeral (a .args .n)) (d .bytes .ensures) (omega (arith, a .pre, parts (now (a .args .key)) (a .args .n)))
 
 -- the key and the digits are written, and there is room for one byte more
-wrote : (c : tie.After-number) → let b = c .before .before .before .before in
-    let a = b .before .before .before .before in
-    Writes (now (a .args .key) ++ numeral (a .args .n)) (now (a .args .buffer))
-    (take (b .bytes .result) (b .bytes .last .0) ++ (c .number .last .0 ++ drop (length (b .bytes .last .0) - b .bytes .result) (drop (b .bytes .result) (b .bytes .last .0))))
-    (b .bytes .result + c .number .result)
+wrote : (c : tie.After-number)
+    → let b = c .before .before .before .before in
+    let a = b .before .before .before .before .args in
+    let s = b .bytes .last .0 in
+    let k = b .bytes .result in
+    Writes (now (a .key) ++ numeral (a .n)) (now (a .buffer)) (take k s ++ (c .number .last .0 ++ drop (length s - k) (drop k s)))
+    (k + c .number .result)
 wrote c = writes-then (c .before .before .before .before .bytes .ensures) (c .number .ensures)
 
 room : (c : tie.After-number) → let a = c .before .before .before .before .before .before .before .before in
