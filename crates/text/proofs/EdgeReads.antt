@@ -1,7 +1,7 @@
 -- What `readEdge` (specs/Readings.antt) finds at a place of a text: the edge line, if it is there, and nothing else. And an edge line
 -- that a text begins with is determined.
 --
--- In order: the two keys; the two numbers; determined; what is found; what is there.
+-- In order: the two keys; determined; the two numbers; what is found is there; what is there is found.
 -- Assumes nothing.
 use mathlib.Core.Path.{_≡_, refl, sym, ap, _∙_, subst, subst₃}
 use mathlib.Core.Logic.{inl, inr, ⊎-elim, _≢_}

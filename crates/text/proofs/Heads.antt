@@ -1,6 +1,7 @@
--- The head of a text, line by line: what `text::head` knows where it stands.
+-- The head of a text, line by line: what `text::head_of` knows where it stands.
 --
--- In order: a number line in range, and one that is at fault, for any line of one number and one check; the four lines of the head.
+-- In order: a number line in range, and one that is at fault, for any line of one number and one check; a place that is reached; the
+-- four lines of the head.
 -- Assumes nothing.
 use mathlib.Core.Path.{_≡_, refl, sym, ap, _∙_, subst, subst₂}
 use mathlib.Core.Logic.{inl}

@@ -1,7 +1,7 @@
--- What `readNumberLine` and `readEdge` (specs/Readings.antt) find at a place of a text: the line, if it is there, and nothing else. And
--- a line that a text begins with is determined.
+-- What `readNumberLine` (specs/Readings.antt) finds at a place of a text: the line, if it is there, and nothing else. And a number line
+-- that a text begins with is determined. Edge lines are in proofs/EdgeReads.antt.
 --
--- In order: a line taken apart; a key; a number line; an edge line.
+-- In order: a line taken apart; a key; a number line.
 -- Assumes nothing.
 use mathlib.Core.Path.{_≡_, sym, ap, _∙_}
 use mathlib.Core.Logic.{_≢_}

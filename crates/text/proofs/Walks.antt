@@ -1,4 +1,4 @@
--- The edge lines of a text, one by one: what the loop of `text::find` knows where it stands.
+-- The edge lines of a text, one by one: what the loop of `text::walk` knows where it stands.
 --
 -- In order: an edge line in range, and one that is at fault; the loop's invariant `Walked`, kept by each edge line; what follows where it
 -- stops; the whole text.

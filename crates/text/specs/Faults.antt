@@ -2,9 +2,9 @@
 --
 -- In order: a text read line by line; the line at fault; the first fault, with the part that is handed back.
 --
--- What 01 leaves open is read so: a last line without LF is not the one due, and the part is what is there; bytes after the
--- last due line are a faulty line of the next number, and the part is that line; a missing line has the number that it would
--- have had.
+-- What 01 leaves open is read so. A last line without LF is not the one due, and the part is what is there. Bytes after the last due
+-- line are a faulty line of the next number, and the part is that line. A missing line has the number that it would have had. A line
+-- with a number of four digits, or any byte more (a space, a CR), is not the one due: 9, and no check on a value is made.
 use mathlib.Core.Path.{_≡_}
 use mathlib.Core.List.{List, [], _++_}
 use Prim.Native.Nat.{ℕ, suc, _≤_}

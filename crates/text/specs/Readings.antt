@@ -1,5 +1,5 @@
--- What the readers of src/ compute, as functions of lists. They decide the lines of specs/Lines.antt: proofs/Numbers.antt and
--- proofs/Read.antt.
+-- What the readers of src/ compute, as functions of lists. That they find exactly the lines of specs/Lines.antt is shown in proofs/:
+-- Scans (a number), Fields (with the byte that ends it), LineReads and EdgeReads (a line).
 --
 -- In order: a digit; a number; a number and the byte that ends it; a key; a number line; an edge line.
 use mathlib.Core.Bool.{Bool, true, false}
