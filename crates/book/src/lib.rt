@@ -334,7 +334,7 @@ pub fn offer_checks(
 // ---- freedom, dropped, verdict
 
 // Check 8 alone, with tables of its own.
-fn sound_alone(book: Book) -> Checked
+pub fn sound_alone(book: Book) -> Checked
     ensures { λ r. ⌜ Found (bookChecks book) Unit r ⌝ }
 {
     let mut root = [0u8; 384];

@@ -6,4 +6,5 @@ pub mod Shrinking
 pub mod Crowds
 pub mod Listing
 pub mod Grouping
+pub mod Refusing
 pub mod Determined

@@ -1,3 +1,4 @@
 pub mod Lent
 pub mod Passes
 pub mod Classes
+pub mod Answers

@@ -18,8 +18,11 @@ ghost use Rattle.labels.specs.Rows.{Long};
 ghost use Rattle.groups.specs.Lent.{Given};
 ghost use Rattle.groups.specs.Passes.{Seated, Planted, sameLabels, stays, Thinned, Shrunk};
 ghost use Rattle.groups.specs.Classes.{together, Listed, Classes};
+ghost use Rattle.groups.specs.Answers.{doneOf};
+use book::Checked;
 use rule::Book;
 use rule::Done;
+use rule::Reason;
 
 // A byte as a number.
 fn wide(x: u8) -> usize
@@ -241,4 +244,29 @@ fn list_groups(book: Book, list: &mut [u8])
         count,
         list,
     );
+}
+
+// A refusal, handed on.
+fn refused(c: Checked) -> Done
+    ensures { λ r. ⌜ r ≡ doneOf c ⌝ }
+{
+    match c {
+        Checked::Fine => Done::Fine,
+        Checked::Refused(reason) => Done::Refused(reason),
+    }
+}
+
+// For each body in order the smallest body of its group. Checks 8, then 7; the tables of check 8 are gone before those of the passes stand.
+pub fn groups(book: Book, list: &mut [u8]) -> Done
+    ensures { λ r. ⌜ Grouped book (now (list .entry)) (now (list .exit)) r ⌝ }
+{
+    let c = book::sound_alone(book);
+    let Checked::Fine = c else {
+        return refused(c);
+    };
+    if list.len() < 64 {
+        return Done::Refused(Reason::Short);
+    }
+    list_groups(book, list);
+    Done::Fine
 }
