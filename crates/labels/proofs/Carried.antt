@@ -22,9 +22,13 @@ SameRow g before after = (t : ℕ) → t < 64 → getD after (start g + t) 0 ≡
 pub row-kept : (g : ℕ) (list : List ℕ) → SameRow g list list
 row-kept g list t l = refl
 
+-- the row of another forest
+pub other-row : (f g : ℕ) → In 6 f → In 6 g → g ≢ f → (t : ℕ) → t < 64 → Outside (start f) (start g + t)
+other-row f g hf hg ne t l r k q = omega arith
+
 pub row-else : (f g : ℕ) → In 6 f → In 6 g → g ≢ f → (before after : List ℕ) → ((i : ℕ) → Outside (start f) i → getD after i 0 ≡ getD before i 0)
     → SameRow g before after
-row-else f g hf hg ne before after else t l = else (start g + t) (λ r less. omega arith)
+row-else f g hf hg ne before after else t l = else (start g + t) (other-row f g hf hg ne t l)
 
 module _ (d : Design) (s t : Set) (same : (x y : ℕ) → joined d s x y ≡ joined d t x y) (g : ℕ) where
   pub labels-carried : (root who root′ who′ : List ℕ) → SameRow g root root′ → SameRow g who who′ → Labels d s g root who

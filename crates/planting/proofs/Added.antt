@@ -22,11 +22,12 @@ use Rattle.words.proofs.Differs.{differs-comm, differs-self, false-differs}
 use Rattle.tables.specs.Tables.{start, word, slot, filled, Slots, Labels, Ways, Tabled}
 use Rattle.labels.specs.Rows.{Long, Applied}
 use Rattle.labels.specs.Labels.{United}
+use Rattle.labels.proofs.Carried.{SameRow, other-row}
 use Rattle.planting.specs.Calls.{Sized, Addable, Added}
 use Rattle.planting.proofs.Between.{between}
 use Rattle.planting.proofs.Larger.{parted, between-new, between-old, between-parted}
 use Rattle.planting.proofs.Tells.{Tells, tells-same, between-none, changed, Near, tells-more}
-use Rattle.planting.proofs.Seats.{seated, seated-none, bits, ways-tell, tell-ways, Reseated, reseated, seated-new, seated-old, seated-other, SameRow, other-row, slots-else, ways-else, labels-else}
+use Rattle.planting.proofs.Seats.{seated, seated-none, bits, ways-tell, tell-ways, Reseated, reseated, seated-new, seated-old, seated-other, slots-else, ways-else, labels-else}
 use Rattle.planting.proofs.Changes.{across, bit-across, bits-changed}
 
 -- ---- the bits across the new edge

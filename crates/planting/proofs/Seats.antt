@@ -2,15 +2,15 @@
 --
 -- In order: the edge that a bit tells; the slots after slot j got edge x; another forest's row, and what it holds.
 -- Assumes nothing.
-use mathlib.Core.Path.{_≡_, refl, sym, ap, ap₂, _∙_, subst, subst₂}
+use mathlib.Core.Path.{_≡_, sym, ap, _∙_, subst, subst₂}
 use mathlib.Core.Logic.{_↔_, _≢_}
 use mathlib.Core.Bool.{Bool, cond, false≢true}
 use mathlib.Core.List.{List}
 use Prim.Native.Nat.{ℕ, _+_, _-_, _≤_, _<_}
 use native.Mathlib.Omega.{arith}
-use lib.ListN.{length, getD, set}
+use lib.ListN.{set}
 use lib.Seq.{getD-set-same, getD-set-other}
-use Rattle.rule.specs.Sets.{Is, isnt, _=?_, _<?_, Set, In, _without_}
+use Rattle.rule.specs.Sets.{Is, isnt, _<?_, Set, In}
 use Rattle.rule.specs.Legal.{Design}
 use Rattle.rule.specs.Forests.{inForest}
 use Rattle.rule.proofs.Tests.{cases, is-false, lt-of, lt-is, not-lt, by-eq, by-le, isnt-make, isnt-not, not-isnt}
@@ -18,8 +18,9 @@ use Rattle.theory.specs.Joined.{joined}
 use Rattle.theory.proofs.Legal.Kept.{forest-make, forest-is}
 use Rattle.words.specs.Bits.{bit}
 use Rattle.words.proofs.Bits.{_differs_, differs-same, same-differs}
-use Rattle.tables.specs.Tables.{start, spot, label, word, slot, filled, crowd, Slots, Labels, Ways}
-use Rattle.labels.specs.Rows.{Long, Outside}
+use Rattle.tables.specs.Tables.{start, word, slot, filled, Slots, Labels, Ways}
+use Rattle.labels.specs.Rows.{Long}
+use Rattle.labels.proofs.Carried.{SameRow, labels-carried}
 use Rattle.planting.proofs.Between.{between}
 use Rattle.planting.proofs.Tells.{Tells, tells-same, between-none}
 
@@ -152,13 +153,6 @@ module _ (d : Design) (forest forest′ : ℕ → ℕ) (f j x : ℕ) (edge size 
 
 -- ---- another forest
 
--- the row of forest g is as it was
-abbrev pub SameRow : (g : ℕ) → List ℕ → List ℕ → Type 0
-SameRow g list list′ = (t : ℕ) → t < 64 → getD list′ (start g + t) 0 ≡ getD list (start g + t) 0
-
-pub other-row : (f g : ℕ) → In 6 f → In 6 g → g ≢ f → (t : ℕ) → t < 64 → Outside (start f) (start g + t)
-other-row f g hf hg ne t l r k q = omega arith
-
 module _ (d : Design) (forest forest′ : ℕ → ℕ) (g : ℕ) (same : inForest forest′ g ≡ inForest forest g) where
   stood : (e : ℕ) → forest′ e ≡ g → forest e ≡ g
   stood e q = forest-is forest g e (ap (λ (s : Set). s e) (sym same) ∙ forest-make forest′ g e q)
@@ -205,16 +199,5 @@ module _ (d : Design) (forest forest′ : ℕ → ℕ) (g : ℕ) (same : inFores
 
   pub labels-else : (root root′ who who′ : List ℕ) → SameRow g root root′ → SameRow g who who′ → Labels d (inForest forest g) g root who
       → Labels d (inForest forest′ g) g root′ who′
-  labels-else root root′ who who′ roots whos l =
-      let name : (x : ℕ) → In 64 x → label root′ g x ≡ label root g x = λ x h. roots (x - 1) (omega arith) in
-      let eq : (x y : ℕ) → joined d (inForest forest g) x y ≡ joined d (inForest forest′ g) x y = λ x y. ap (λ (s : Set). joined d s x y) (sym same) in
-      record {
-        small = λ x h. subst (λ (z : ℕ). z < 64) (sym (name x h)) (l .small x h);
-        same = λ x y hx hy. ap₂ _=?_ (name x hx) (name y hy) ∙ l .same x y hx hy ∙ eq x y;
-        bodies =
-            λ x y hx hy.
-            ap (λ (z : ℕ). bit (crowd who′ g z) (y - 1)) (name x hx)
-            ∙ ap (λ (z : ℕ). bit z (y - 1)) (whos (label root g x) (l .small x hx))
-            ∙ l .bodies x y hx hy
-            ∙ eq x y;
-      }
+  labels-else root root′ who who′ =
+      labels-carried d (inForest forest g) (inForest forest′ g) (λ x y. ap (λ (s : Set). joined d s x y) (sym same)) g root who root′ who′

@@ -25,10 +25,11 @@ use Rattle.words.proofs.Bits.{_differs_}
 use Rattle.words.proofs.Differs.{differs-comm, differs-self, false-differs}
 use Rattle.tables.specs.Tables.{start, word, slot, filled, Slots, Labels, Ways, Tabled}
 use Rattle.labels.specs.Rows.{Long, Applied}
+use Rattle.labels.proofs.Carried.{SameRow, other-row}
 use Rattle.planting.specs.Calls.{Swappable, Swapped, turnedBy, FirstSlot}
 use Rattle.planting.proofs.Between.{between-make}
 use Rattle.planting.proofs.Tells.{Tells, tells-same, changed, tells-in, tells-swapped}
-use Rattle.planting.proofs.Seats.{seated, seated-in, seated-none, bits, ways-tell, tell-ways, Reseated, reseated, seated-new, seated-old, seated-other, SameRow, other-row, slots-else, ways-else, labels-else}
+use Rattle.planting.proofs.Seats.{seated, seated-in, seated-none, bits, ways-tell, tell-ways, Reseated, reseated, seated-new, seated-old, seated-other, slots-else, ways-else, labels-else}
 use Rattle.planting.proofs.Changes.{across, bit-across, bits-turned}
 
 -- the first slot that holds y is the slot of y
