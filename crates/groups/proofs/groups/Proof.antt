@@ -34,7 +34,7 @@ returns-2 c =
     let check = c .before .before .before in
     let start = check .before .before in
     refused-short (start .args .book) (start .args .list .now)
-    (passed-sound (start .args .book) (check .sound-alone .result) (c .before .enum-told .given .1) (check .sound-alone .ensures)) (c .if1 .taken)
+    (passed-sound (start .args .book) (check .sound-alone .result) (c .before .enum-told .given .1) (check .sound-alone .ensures)) (omega (arith, c .if1 .taken))
 
 list-groups-requires : tie.Need-list-groups-requires
 list-groups-requires c κs =
