@@ -1,0 +1,40 @@
+-- Laws of `Filled`: nothing is written at first, a store behind what is written makes it one longer, and then what stood before the
+-- place, with the list, is the front of the slice, which is as long as it was.
+-- Assumes nothing.
+use mathlib.Core.Path.{_≡_, refl, sym, ap, ap₂, _∙_}
+use mathlib.Core.List.{List, [], _∷_, _++_, append-assoc, append-nil}
+use Prim.Native.Nat.{ℕ, suc, _+_, _-_, _≤_, _<_}
+use native.Mathlib.Nat.{add-zero}
+use native.Mathlib.Omega.{arith}
+use lib.ListN.{length, getD, take, drop, set, length-append, length-drop, take-append-drop}
+use lib.Seq.{length-take-le, drop-cons, append-snoc, set-at, take-at}
+use Rattle.search.specs.Filled.{Filled}
+
+pub filled-none : (old : List ℕ) (place : ℕ) → place ≤ length old → Filled old place [] old
+filled-none old place h =
+    record { room = omega arith; written = sym (ap₂ (λ (l : List ℕ) (n : ℕ). l ++ drop n old) (append-nil (take place old)) (add-zero place) ∙ take-append-drop place old) }
+
+module _ (old : List ℕ) (place : ℕ) (list now : List ℕ) (f : Filled old place list now) where
+  front-length : length (take place old ++ list) ≡ place + length list
+  front-length = omega (arith, length-append (take place old) list, length-take-le place old (omega (arith, f .room)))
+
+  pub filled-length : length now ≡ length old
+  filled-length =
+      ap length (f .written)
+      ∙ omega (arith, f .room, front-length, length-append (take place old ++ list) (drop (place + length list) old), length-drop (place + length list) old)
+
+  pub filled-front : take (place + length list) now ≡ take place old ++ list
+  filled-front = ap (take (place + length list)) (f .written) ∙ take-at (take place old ++ list) _ _ front-length
+
+  pub filled-more : (x : ℕ) → place + length list < length old → Filled old place (list ++ (x ∷ [])) (set now (place + length list) x)
+  filled-more x h =
+      let n = place + length list in
+      let one-more : suc n ≡ place + length (list ++ (x ∷ [])) = omega (arith, length-append list (x ∷ [])) in
+      record {
+        room = omega arith;
+        written =
+            ap (λ (l : List ℕ). set l n x) (f .written ∙ ap (λ (l : List ℕ). take place old ++ list ++ l) (drop-cons old n 0 h))
+            ∙ set-at (take place old ++ list) (getD old n 0) (drop (suc n) old) x n front-length
+            ∙ sym (append-snoc (take place old ++ list) x (drop (suc n) old))
+            ∙ ap₂ (λ (l : List ℕ) (j : ℕ). l ++ drop j old) (append-assoc (take place old) list (x ∷ [])) one-more;
+      }
