@@ -1,12 +1,13 @@
 -- Laws of `Filled`: nothing is written at first, a store behind what is written makes it one longer, and then what stood before the
 -- place, with the list, is the front of the slice, which is as long as it was.
 -- Assumes nothing.
-use mathlib.Core.Path.{_≡_, refl, sym, ap, ap₂, _∙_}
+use mathlib.Core.Path.{_≡_, sym, ap, ap₂, _∙_, subst₂}
 use mathlib.Core.List.{List, [], _∷_, _++_, append-assoc, append-nil}
 use Prim.Native.Nat.{ℕ, suc, _+_, _-_, _≤_, _<_}
 use native.Mathlib.Nat.{add-zero}
+use native.Mathlib.Numerals.{add-one}
 use native.Mathlib.Omega.{arith}
-use lib.ListN.{length, getD, take, drop, set, length-append, length-drop, take-append-drop}
+use lib.ListN.{length, getD, take, drop, set, replicate, length-append, length-replicate, replicate-append-replicate, length-drop, take-append-drop}
 use lib.Seq.{length-take-le, drop-cons, append-snoc, set-at, take-at}
 use Rattle.search.specs.Filled.{Filled}
 
@@ -14,7 +15,7 @@ pub filled-none : (old : List ℕ) (place : ℕ) → place ≤ length old → Fi
 filled-none old place h =
     record { room = omega arith; written = sym (ap₂ (λ (l : List ℕ) (n : ℕ). l ++ drop n old) (append-nil (take place old)) (add-zero place) ∙ take-append-drop place old) }
 
-module _ (old : List ℕ) (place : ℕ) (list now : List ℕ) (f : Filled old place list now) where
+module _ {old : List ℕ} {place : ℕ} {list now : List ℕ} (f : Filled old place list now) where
   front-length : length (take place old ++ list) ≡ place + length list
   front-length = omega (arith, length-append (take place old) list, length-take-le place old (omega (arith, f .room)))
 
@@ -38,3 +39,11 @@ module _ (old : List ℕ) (place : ℕ) (list now : List ℕ) (f : Filled old pl
             ∙ sym (append-snoc (take place old ++ list) x (drop (suc n) old))
             ∙ ap₂ (λ (l : List ℕ) (j : ℕ). l ++ drop j old) (append-assoc (take place old) list (x ∷ [])) one-more;
       }
+
+-- the same number once more
+pub filled-repeat : {old now : List ℕ} {place : ℕ} (n x : ℕ) → Filled old place (replicate n x) now → place + n < length old
+    → Filled old place (replicate (suc n) x) (set now (place + n) x)
+filled-repeat {old = old} {now = now} {place = place} n x f h =
+    subst₂ (λ (l : List ℕ) (j : ℕ). Filled old place l (set now (place + j) x)) (replicate-append-replicate n 1 x ∙ ap (λ (j : ℕ). replicate j x) (add-one n))
+    (length-replicate n x)
+    (filled-more f x (omega (arith, length-replicate n x)))

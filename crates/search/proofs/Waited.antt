@@ -138,7 +138,10 @@ filled-waited old now first e m s f room h new =
 -- so does the loop, wherever it stops
 pub takes-in : (e first size q : ℕ) (before queue : List ℕ) → waited e first q queue ≡ waited e first size before → (first < q → getD queue (q - 1) 0 < e)
     → size < length before → TakesIn e first size before (set queue q e)
-unfolding TakesIn
-takes-in e first size q before queue same stops room old s m h new at f =
-    subst (Filled old first (numbers (s with e) m)) (ap (λ (n : ℕ). waited e first n before) (sym at) ∙ sym same ∙ waited-stops e first q queue stops)
-    (filled-waited old before first e m s f (omega (arith, filled-length old first (numbers s m) before f)) h new)
+takes-in e first size q before queue same stops room =
+    record {
+      in-order =
+          λ old s m h new at f.
+          subst (Filled old first (numbers (s with e) m)) (ap (λ (n : ℕ). waited e first n before) (sym at) ∙ sym same ∙ waited-stops e first q queue stops)
+          (filled-waited old before first e m s f (omega (arith, filled-length f)) h new);
+    }

@@ -11,7 +11,6 @@ pub record Filled (old : List ℕ) (place : ℕ) (list now : List ℕ) : Type 0 
   pub written : now ≡ take place old ++ list ++ drop (place + length list) old
 
 -- where the numbers of a set that e is not in stood in order, from the place `first` up to the place `size`, those of the set with e do
-unfoldable pub TakesIn : (e first size : ℕ) (before after : List ℕ) → Type 0
-TakesIn e first size before after =
-    (old : List ℕ) (s : Set) (m : ℕ) → In m e → ¬ (Is (s e)) → size ≡ first + length (numbers s m)
-    → Filled old first (numbers s m) before → Filled old first (numbers (s with e) m) after
+pub record TakesIn (e first size : ℕ) (before after : List ℕ) : Type 0 where
+  pub in-order : (old : List ℕ) (s : Set) (m : ℕ) → In m e → ¬ (Is (s e)) → size ≡ first + length (numbers s m)
+      → Filled old first (numbers s m) before → Filled old first (numbers (s with e) m) after
