@@ -3,3 +3,7 @@ pub mod Numbers
 pub mod Waited
 pub mod Bits
 pub mod Coming
+pub mod Bound
+pub mod Paths
+pub mod Tried
+pub mod OneForest

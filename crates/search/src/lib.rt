@@ -1,10 +1,21 @@
 // The search for a place of a new edge.
 ghost use mathlib.Core.Path.{_≡_};
+ghost use mathlib.Core.Logic.{_≢_};
 ghost use Prim.Native.Nat.{_+_, _<_, _≤_};
 ghost use lib.ListN.{length};
-ghost use Rattle.rule.specs.Sets.{numbers};
+ghost use Rattle.rule.specs.Sets.{In, numbers};
+ghost use Rattle.rule.specs.Forests.{limit};
+ghost use Rattle.theory.specs.Search.{tryForest};
 ghost use Rattle.search.specs.Filled.{TakesIn};
 ghost use Rattle.search.specs.Words.{Coming, Came};
+ghost use Rattle.search.specs.Outcome.{Answers, Trying, After};
+
+// Where the search has come to: its end, at a place of the queue, in a forest where the edge there is free; or no end, and so many edges
+// wait.
+pub enum Search {
+    Found(usize, usize),
+    Stuck(usize),
+}
 
 // Edge e waits among those from place first on, in number order.
 fn wait(e: u16, first: usize, size: usize, queue: &mut [u16; 379])
@@ -25,12 +36,18 @@ fn wait(e: u16, first: usize, size: usize, queue: &mut [u16; 379])
 }
 
 // The edges of a word, which stand in a table from index base on, wait behind the others, smallest number first, reached from a place.
-fn reach(base: usize, word: u64, edge: &[u16; 384], queue: &mut [u16; 379], from: &mut [u16; 379], size: usize, place: u16) -> usize
+fn reach(
+    base: usize,
+    word: u64,
+    edge: &[u16; 384],
+    queue: &mut [u16; 379],
+    from: &mut [u16; 379],
+    size: usize,
+    place: u16,
+) -> usize
     requires { ⌜ (base ≤ 320) × (length (now queue) ≡ 379) × (length (now from) ≡ 379) × Coming base word size (now edge) ⌝ }
-    ensures {
-        λ r. ⌜ ((t : Coming base word size (now (edge .entry)))
-            → Came (numbers (t .edges) (t .most)) size place (now (queue .entry)) (now (from .entry)) (now (queue .exit)) (now (from .exit)) r) ⌝
-    }
+    ensures { λ r. ⌜ ((t : Coming base word size (now (edge .entry)))
+        → Came (numbers (t .edges) (t .most)) size place (now (queue .entry)) (now (from .entry)) (now (queue .exit)) (now (from .exit)) r) ⌝ }
 {
     let mut left = word;
     let mut n = size;
@@ -43,4 +60,37 @@ fn reach(base: usize, word: u64, edge: &[u16; 384], queue: &mut [u16; 379], from
         left = words::without(left, t);
     }
     n
+}
+
+// The edge between u and v, waiting at a place of n, tries forest f, which is not its own.
+fn try_forest(
+    f: usize,
+    u: usize,
+    v: usize,
+    place: usize,
+    n: usize,
+    root: &[u8; 384],
+    way: &[u64; 384],
+    edge: &[u16; 384],
+    queue: &mut [u16; 379],
+    from: &mut [u16; 379],
+    seen: &mut [u64; 6],
+) -> Search
+    requires { ⌜ ((t : Trying u v place n (now root) (now way) (now edge) (now queue) (now from) (now seen))
+        × (In (limit (t .d) (t .x)) f × (t .forest (t .x) ≢ f))) ⌝ }
+    ensures { λ r. ⌜ ((t : Trying u v place n (now (root .entry)) (now (way .entry)) (now (edge .entry)) (now (queue .entry)) (now (from .entry)) (now (seen .entry)))
+        → In (limit (t .d) (t .x)) f → t .forest (t .x) ≢ f
+        → Answers (After t (now (queue .exit)) (now (from .exit)) (now (seen .exit))) (tryForest (t .d) (t .forest) place (t .x) f (t .w)) r) ⌝ }
+{
+    if tables::joined(root, f, u, v) {
+        let on = tables::path(way, f, u, v);
+        let g = f - 1;
+        let old = seen[g];
+        let both = old | on;
+        seen[g] = both;
+        let more = reach(g * 64, both ^ old, edge, queue, from, n, place as u16);
+        Search::Stuck(more)
+    } else {
+        Search::Found(place, f)
+    }
 }
