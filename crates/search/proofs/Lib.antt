@@ -7,3 +7,4 @@ pub mod Bound
 pub mod Paths
 pub mod Tried
 pub mod OneForest
+pub mod AllForests

@@ -5,7 +5,7 @@ ghost use Prim.Native.Nat.{_+_, _<_, _≤_};
 ghost use lib.ListN.{length};
 ghost use Rattle.rule.specs.Sets.{In, numbers};
 ghost use Rattle.rule.specs.Forests.{limit};
-ghost use Rattle.theory.specs.Search.{tryForest};
+ghost use Rattle.theory.specs.Search.{tryForest, tryForests};
 ghost use Rattle.search.specs.Filled.{TakesIn};
 ghost use Rattle.search.specs.Words.{Coming, Came};
 ghost use Rattle.search.specs.Outcome.{Answers, Trying, After};
@@ -93,4 +93,47 @@ fn try_forest(
     } else {
         Search::Found(place, f)
     }
+}
+
+// The edge between u and v, waiting at a place of start, tries its forests 1 to last in number order, passing over its own.
+fn try_forests(
+    own: usize,
+    last: usize,
+    u: usize,
+    v: usize,
+    place: usize,
+    start: usize,
+    root: &[u8; 384],
+    way: &[u64; 384],
+    edge: &[u16; 384],
+    queue: &mut [u16; 379],
+    from: &mut [u16; 379],
+    seen: &mut [u64; 6],
+) -> Search
+    requires { ⌜ ((t : Trying u v place start (now root) (now way) (now edge) (now queue) (now from) (now seen))
+        × ((limit (t .d) (t .x) ≡ last) × (t .forest (t .x) ≡ own))) ⌝ }
+    ensures { λ r. ⌜ ((t : Trying u v place start (now (root .entry)) (now (way .entry)) (now (edge .entry)) (now (queue .entry)) (now (from .entry)) (now (seen .entry)))
+        → limit (t .d) (t .x) ≡ last → t .forest (t .x) ≡ own
+        → Answers (After t (now (queue .exit)) (now (from .exit)) (now (seen .exit))) (tryForests (t .d) (t .forest) place (t .x) last (t .w)) r) ⌝ }
+{
+    let mut n = start;
+    let mut tried: usize = 0;
+    while tried < last {
+        let f = tried + 1;
+        if f == own {
+            tried = f;
+        } else {
+            let t = try_forest(f, u, v, place, n, root, way, edge, queue, from, seen);
+            match t {
+                Search::Found(p, g) => {
+                    return Search::Found(p, g);
+                }
+                Search::Stuck(more) => {
+                    n = more;
+                    tried = f;
+                }
+            }
+        }
+    }
+    Search::Stuck(n)
 }
