@@ -8,3 +8,4 @@ pub mod Paths
 pub mod Tried
 pub mod OneForest
 pub mod AllForests
+pub mod AllTurns

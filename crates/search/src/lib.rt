@@ -1,14 +1,16 @@
 // The search for a place of a new edge.
 ghost use mathlib.Core.Path.{_≡_};
+ghost use mathlib.Core.Bool.{cond};
 ghost use mathlib.Core.Logic.{_≢_};
 ghost use Prim.Native.Nat.{_+_, _<_, _≤_};
 ghost use lib.ListN.{length};
-ghost use Rattle.rule.specs.Sets.{In, numbers};
+ghost use Rattle.rule.specs.Sets.{_=?_, In, numbers};
 ghost use Rattle.rule.specs.Forests.{limit};
 ghost use Rattle.theory.specs.Search.{tryForest, tryForests};
 ghost use Rattle.search.specs.Filled.{TakesIn};
 ghost use Rattle.search.specs.Words.{Coming, Came};
-ghost use Rattle.search.specs.Outcome.{Answers, Trying, After};
+ghost use Rattle.search.specs.Setting.{Given};
+ghost use Rattle.search.specs.Outcome.{Answers, Turned, Searched, Trying, After};
 
 // Where the search has come to: its end, at a place of the queue, in a forest where the edge there is free; or no end, and so many edges
 // wait.
@@ -132,6 +134,117 @@ fn try_forests(
                     n = more;
                     tried = f;
                 }
+            }
+        }
+    }
+    Search::Stuck(n)
+}
+
+fn wide(x: u8) -> usize
+    ensures { λ r. ⌜ r ≡ x ⌝ }
+{
+    x as usize
+}
+
+// The last forest that an edge of a colour may stand in.
+fn last_of(colour: u8, a: usize, k: usize) -> usize
+    ensures { λ r. ⌜ r ≡ cond (colour =? 1) a k ⌝ }
+{
+    if colour == 1 { a } else { k }
+}
+
+// The turn of the edge that waits at a place, behind the new one.
+fn turn(
+    a: usize,
+    k: usize,
+    place: usize,
+    n: usize,
+    ones: &[u8; 512],
+    others: &[u8; 512],
+    colours: &[u8; 512],
+    forests: &[u8; 512],
+    root: &[u8; 384],
+    way: &[u64; 384],
+    edge: &[u16; 384],
+    queue: &mut [u16; 379],
+    from: &mut [u16; 379],
+    seen: &mut [u64; 6],
+) -> Search
+    requires { ⌜ ((g : Given a k (now ones) (now others) (now colours) (now forests) (now root) (now way) (now edge))
+        × ((1 ≤ place) × ((place < n) × Turned g (now queue) (now from) (now seen) place (Search.Stuck n)))) ⌝ }
+    ensures { λ r. ⌜ ((g : Given a k (now (ones .entry)) (now (others .entry)) (now (colours .entry)) (now (forests .entry)) (now (root .entry)) (now (way .entry)) (now (edge .entry)))
+        → Turned g (now (queue .entry)) (now (from .entry)) (now (seen .entry)) place (Search.Stuck n)
+        → Turned g (now (queue .exit)) (now (from .exit)) (now (seen .exit)) (place + 1) r) ⌝ }
+{
+    let i = (queue[place] as usize) - 1;
+    let own = wide(forests[i]);
+    let last = last_of(colours[i], a, k);
+    let u = wide(ones[i]);
+    let v = wide(others[i]);
+    try_forests(
+        own,
+        last,
+        u,
+        v,
+        place,
+        n,
+        root,
+        way,
+        edge,
+        queue,
+        from,
+        seen,
+    )
+}
+
+// The turns of the waiting edges, after that of the new one, until all have had theirs.
+fn turns(
+    a: usize,
+    k: usize,
+    start: usize,
+    ones: &[u8; 512],
+    others: &[u8; 512],
+    colours: &[u8; 512],
+    forests: &[u8; 512],
+    root: &[u8; 384],
+    way: &[u64; 384],
+    edge: &[u16; 384],
+    queue: &mut [u16; 379],
+    from: &mut [u16; 379],
+    seen: &mut [u64; 6],
+) -> Search
+    requires { ⌜ ((g : Given a k (now ones) (now others) (now colours) (now forests) (now root) (now way) (now edge))
+        × Turned g (now queue) (now from) (now seen) 1 (Search.Stuck start)) ⌝ }
+    ensures { λ r. ⌜ ((g : Given a k (now (ones .entry)) (now (others .entry)) (now (colours .entry)) (now (forests .entry)) (now (root .entry)) (now (way .entry)) (now (edge .entry)))
+        → Turned g (now (queue .entry)) (now (from .entry)) (now (seen .entry)) 1 (Search.Stuck start)
+        → Searched g (now (queue .exit)) (now (from .exit)) r) ⌝ }
+{
+    let mut n = start;
+    let mut q: usize = 1;
+    while q < n {
+        let r = turn(
+            a,
+            k,
+            q,
+            n,
+            ones,
+            others,
+            colours,
+            forests,
+            root,
+            way,
+            edge,
+            queue,
+            from,
+            seen,
+        );
+        match r {
+            Search::Found(p, f) => {
+                return Search::Found(p, f);
+            }
+            Search::Stuck(more) => {
+                n = more;
+                q = q + 1;
             }
         }
     }
