@@ -13,9 +13,9 @@ use Rattle.rule.proofs.Tests.{by-eq}
 use Rattle.theory.specs.Search.{Waiting, Result, andThen, tryForest, tryForests}
 use Rattle.theory.specs.Search.Result.{found, going}
 use Rattle.theory.proofs.Search.Reached.{size, grows-refl, grows-trans}
-use Rattle.search.specs.declared.Search.{Search}
-use Rattle.search.specs.declared.Search.the-variants.{Found, Stuck}
-use Rattle.search.specs.Outcome.{Comes, Answers, Trying, Further, After}
+use Rattle.search.specs.declared.Outcome.{Outcome}
+use Rattle.search.specs.declared.Outcome.the-variants.{Found, Stuck}
+use Rattle.search.specs.Answers.{Comes, Answers, Trying, Further, After}
 use Rattle.search.proofs.Tried.{try-own}
 
 -- a result that no later step changes stays

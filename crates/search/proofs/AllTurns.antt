@@ -18,10 +18,10 @@ use Rattle.theory.specs.Search.{Waiting, edgeAt, Result, andThen, pick, tryFore
 use Rattle.theory.specs.Search.Result.{found, going}
 use Rattle.theory.proofs.Search.Reached.{size}
 use Rattle.theory.proofs.Search.Image.{size-most}
-use Rattle.search.specs.declared.Search.{Search}
-use Rattle.search.specs.declared.Search.the-variants.{Found, Stuck}
+use Rattle.search.specs.declared.Outcome.{Outcome}
+use Rattle.search.specs.declared.Outcome.the-variants.{Found, Stuck}
 use Rattle.search.specs.Setting.{Setting, Edge, Given, Holds, State}
-use Rattle.search.specs.Outcome.{Comes, Answers, Turned, Searched, Trying, After}
+use Rattle.search.specs.Answers.{Comes, Answers, Turned, Searched, Trying, After}
 use Rattle.search.proofs.Bound.{few-wait}
 use Rattle.search.proofs.AllForests.{stays}
 
@@ -118,7 +118,7 @@ module _ {a k′ : ℕ} {ones others colours forests root way edge : List ℕ} (
         tried : before (q + 1) ≡ tryForests (g .d) (g .forest) q x last (s .waiting)
         tried = this-turn ∙ ap (λ (j : ℕ). tryForests (g .d) (g .forest) q x j (s .waiting)) limited
 
-        pub turn-answers : (queue′ from′ seen′ : List ℕ) (r : Search)
+        pub turn-answers : (queue′ from′ seen′ : List ℕ) (r : Outcome)
             → Answers (After (has-turn e) queue′ from′ seen′) (tryForests (g .d) (g .forest) q x last (s .waiting)) r → Turned g queue′ from′ seen′ (q + 1) r
         turn-answers queue′ from′ seen′ (Found p i) b = record { waiting = b .waiting; is = tried ∙ b .is; holds = b .holds .state }
         turn-answers queue′ from′ seen′ (Stuck m) b = record { waiting = b .waiting; is = tried ∙ b .is; holds = (b .holds .0, b .holds .1 .state) }

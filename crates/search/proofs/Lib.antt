@@ -9,3 +9,4 @@ pub mod Tried
 pub mod OneForest
 pub mod AllForests
 pub mod AllTurns
+pub mod Beginning

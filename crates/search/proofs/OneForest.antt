@@ -18,10 +18,10 @@ use Rattle.theory.specs.Search.Result.{found, going}
 use Rattle.theory.proofs.Legal.Kept.{limit-most}
 use Rattle.theory.proofs.Search.Reached.{size, grows-refl}
 use Rattle.tables.specs.Tables.{start, label, word}
-use Rattle.search.specs.declared.Search.{Search}
-use Rattle.search.specs.declared.Search.the-variants.{Found, Stuck}
+use Rattle.search.specs.declared.Outcome.{Outcome}
+use Rattle.search.specs.declared.Outcome.the-variants.{Found, Stuck}
 use Rattle.search.specs.Words.{Carries, standing, Coming, Came}
-use Rattle.search.specs.Outcome.{Comes, Answers, Trying, Further, After}
+use Rattle.search.specs.Answers.{Comes, Answers, Trying, Further, After}
 use Rattle.search.proofs.Bound.{few-wait}
 use Rattle.search.proofs.Paths.{joined-ends, carries-fresh}
 use Rattle.search.proofs.Tried.{try-joined, try-free, next-room, reached-further}

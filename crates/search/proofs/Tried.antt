@@ -28,7 +28,7 @@ use Rattle.tables.specs.Tables.{word, slot, filled}
 use Rattle.search.specs.Filled.{Filled}
 use Rattle.search.specs.Words.{Came}
 use Rattle.search.specs.Setting.{Setting, Holds, State}
-use Rattle.search.specs.Outcome.{Further}
+use Rattle.search.specs.Answers.{Further}
 use Rattle.search.proofs.Filled.{filled-length, filled-front}
 use Rattle.search.proofs.Bound.{few-wait}
 use Rattle.search.proofs.Paths.{on-path}
@@ -97,6 +97,7 @@ module _ {d : Design} {forest : ℕ → ℕ} {root way who edge sizes : List ℕ
             ap (λ (j : ℕ). take j from′) (next-size ∙ ap (λ (j : ℕ). size w + j) (sym (length-replicate (length news) place)))
             ∙ filled-front (c .reached)
             ∙ ap (λ (l : List ℕ). l ++ replicate (length news) place) (state .holds .reached);
+        places = (filled-length (c .waits) ∙ state .holds .places .0, filled-length (c .reached) ∙ state .holds .places .1);
       }
 
   module _ (hx : In (d .m) x) (hf : In 6 f) (spanned : Is (spans d (inForest forest f) x)) where
@@ -111,7 +112,7 @@ module _ {d : Design} {forest : ℕ → ℕ} {root way who edge sizes : List ℕ
         (λ q.
         subst (λ (z : ℕ). j < filled sizes z → bit (getD (set seen (f - 1) both) (z - 1) 0) j ≡ next .seen (slot edge z j)) (sym q)
         (λ h′.
-        ap (λ (v : ℕ). bit v j) (getD-set-same seen (f - 1) both 0 (omega (arith, state .places .2)))
+        ap (λ (v : ℕ). bit v j) (getD-set-same seen (f - 1) both 0 (omega (arith, state .words)))
         ∙ bit-or (getD seen (f - 1) 0) _ j
         ∙ ap₂ (λ (a b : Bool). a or b) (state .marks f j hf h′) (on-path s x f hx hf spanned j h′))
         h)
@@ -130,7 +131,7 @@ module _ {d : Design} {forest : ℕ → ℕ} {root way who edge sizes : List ℕ
               sound = next-sound;
               holds = next-holds queue′ from′ n c;
               marks = marked;
-              places = (filled-length (c .waits) ∙ state .places .0, filled-length (c .reached) ∙ state .places .1, length-set seen (f - 1) both ∙ state .places .2);
+              words = length-set seen (f - 1) both ∙ state .words;
             };
         grows = next-grows;
       },

@@ -9,12 +9,12 @@ ghost use Rattle.rule.specs.Forests.{limit};
 ghost use Rattle.theory.specs.Search.{tryForest, tryForests};
 ghost use Rattle.search.specs.Filled.{TakesIn};
 ghost use Rattle.search.specs.Words.{Coming, Came};
-ghost use Rattle.search.specs.Setting.{Given};
-ghost use Rattle.search.specs.Outcome.{Answers, Turned, Searched, Trying, After};
+ghost use Rattle.search.specs.Setting.{Given, Sought};
+ghost use Rattle.search.specs.Answers.{Answers, Turned, Searched, Trying, After};
 
 // Where the search has come to: its end, at a place of the queue, in a forest where the edge there is free; or no end, and so many edges
 // wait.
-pub enum Search {
+pub enum Outcome {
     Found(usize, usize),
     Stuck(usize),
 }
@@ -77,7 +77,7 @@ fn try_forest(
     queue: &mut [u16; 379],
     from: &mut [u16; 379],
     seen: &mut [u64; 6],
-) -> Search
+) -> Outcome
     requires { ⌜ ((t : Trying u v place n (now root) (now way) (now edge) (now queue) (now from) (now seen))
         × (In (limit (t .d) (t .x)) f × (t .forest (t .x) ≢ f))) ⌝ }
     ensures { λ r. ⌜ ((t : Trying u v place n (now (root .entry)) (now (way .entry)) (now (edge .entry)) (now (queue .entry)) (now (from .entry)) (now (seen .entry)))
@@ -91,9 +91,9 @@ fn try_forest(
         let both = old | on;
         seen[g] = both;
         let more = reach(g * 64, both ^ old, edge, queue, from, n, place as u16);
-        Search::Stuck(more)
+        Outcome::Stuck(more)
     } else {
-        Search::Found(place, f)
+        Outcome::Found(place, f)
     }
 }
 
@@ -111,7 +111,7 @@ fn try_forests(
     queue: &mut [u16; 379],
     from: &mut [u16; 379],
     seen: &mut [u64; 6],
-) -> Search
+) -> Outcome
     requires { ⌜ ((t : Trying u v place start (now root) (now way) (now edge) (now queue) (now from) (now seen))
         × ((limit (t .d) (t .x) ≡ last) × (t .forest (t .x) ≡ own))) ⌝ }
     ensures { λ r. ⌜ ((t : Trying u v place start (now (root .entry)) (now (way .entry)) (now (edge .entry)) (now (queue .entry)) (now (from .entry)) (now (seen .entry)))
@@ -127,17 +127,17 @@ fn try_forests(
         } else {
             let t = try_forest(f, u, v, place, n, root, way, edge, queue, from, seen);
             match t {
-                Search::Found(p, g) => {
-                    return Search::Found(p, g);
+                Outcome::Found(p, g) => {
+                    return Outcome::Found(p, g);
                 }
-                Search::Stuck(more) => {
+                Outcome::Stuck(more) => {
                     n = more;
                     tried = f;
                 }
             }
         }
     }
-    Search::Stuck(n)
+    Outcome::Stuck(n)
 }
 
 fn wide(x: u8) -> usize
@@ -169,11 +169,11 @@ fn turn(
     queue: &mut [u16; 379],
     from: &mut [u16; 379],
     seen: &mut [u64; 6],
-) -> Search
+) -> Outcome
     requires { ⌜ ((g : Given a k (now ones) (now others) (now colours) (now forests) (now root) (now way) (now edge))
-        × ((1 ≤ place) × ((place < n) × Turned g (now queue) (now from) (now seen) place (Search.Stuck n)))) ⌝ }
+        × ((1 ≤ place) × ((place < n) × Turned g (now queue) (now from) (now seen) place (Outcome.Stuck n)))) ⌝ }
     ensures { λ r. ⌜ ((g : Given a k (now (ones .entry)) (now (others .entry)) (now (colours .entry)) (now (forests .entry)) (now (root .entry)) (now (way .entry)) (now (edge .entry)))
-        → Turned g (now (queue .entry)) (now (from .entry)) (now (seen .entry)) place (Search.Stuck n)
+        → Turned g (now (queue .entry)) (now (from .entry)) (now (seen .entry)) place (Outcome.Stuck n)
         → Turned g (now (queue .exit)) (now (from .exit)) (now (seen .exit)) (place + 1) r) ⌝ }
 {
     let i = (queue[place] as usize) - 1;
@@ -212,11 +212,11 @@ fn turns(
     queue: &mut [u16; 379],
     from: &mut [u16; 379],
     seen: &mut [u64; 6],
-) -> Search
+) -> Outcome
     requires { ⌜ ((g : Given a k (now ones) (now others) (now colours) (now forests) (now root) (now way) (now edge))
-        × Turned g (now queue) (now from) (now seen) 1 (Search.Stuck start)) ⌝ }
+        × Turned g (now queue) (now from) (now seen) 1 (Outcome.Stuck start)) ⌝ }
     ensures { λ r. ⌜ ((g : Given a k (now (ones .entry)) (now (others .entry)) (now (colours .entry)) (now (forests .entry)) (now (root .entry)) (now (way .entry)) (now (edge .entry)))
-        → Turned g (now (queue .entry)) (now (from .entry)) (now (seen .entry)) 1 (Search.Stuck start)
+        → Turned g (now (queue .entry)) (now (from .entry)) (now (seen .entry)) 1 (Outcome.Stuck start)
         → Searched g (now (queue .exit)) (now (from .exit)) r) ⌝ }
 {
     let mut n = start;
@@ -239,14 +239,63 @@ fn turns(
             seen,
         );
         match r {
-            Search::Found(p, f) => {
-                return Search::Found(p, f);
+            Outcome::Found(p, f) => {
+                return Outcome::Found(p, f);
             }
-            Search::Stuck(more) => {
+            Outcome::Stuck(more) => {
                 n = more;
                 q = q + 1;
             }
         }
     }
-    Search::Stuck(n)
+    Outcome::Stuck(n)
+}
+
+// The search for a place of the new edge, with a number, between u and v, of a colour: the first places of the queue hold what waits at its end, and
+// of the other array the places from which each was reached.
+pub fn search(
+    a: usize,
+    k: usize,
+    u: usize,
+    v: usize,
+    colour: u8,
+    number: u16,
+    ones: &[u8; 512],
+    others: &[u8; 512],
+    colours: &[u8; 512],
+    forests: &[u8; 512],
+    root: &[u8; 384],
+    way: &[u64; 384],
+    edge: &[u16; 384],
+    queue: &mut [u16; 379],
+    from: &mut [u16; 379],
+) -> Outcome
+    requires { ⌜ (length (now queue) ≡ 379) × (length (now from) ≡ 379)
+        × Sought a k u v colour number (now ones) (now others) (now colours) (now forests) (now root) (now way) (now edge) ⌝ }
+    ensures { λ r. ⌜ ((s : Sought a k u v colour number (now (ones .entry)) (now (others .entry)) (now (colours .entry)) (now (forests .entry)) (now (root .entry)) (now (way .entry)) (now (edge .entry)))
+        → Searched (s .given) (now (queue .exit)) (now (from .exit)) r) ⌝ }
+{
+    queue[0] = number;
+    from[0] = 0;
+    let mut seen = [0u64; 6];
+    let last = last_of(colour, a, k);
+    let r = try_forests(0, last, u, v, 0, 1, root, way, edge, queue, from, &mut seen);
+    match r {
+        Outcome::Found(p, f) => Outcome::Found(p, f),
+        Outcome::Stuck(n) => turns(
+            a,
+            k,
+            n,
+            ones,
+            others,
+            colours,
+            forests,
+            root,
+            way,
+            edge,
+            queue,
+            from,
+            &mut seen,
+        ),
+    }
 }

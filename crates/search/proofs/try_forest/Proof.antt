@@ -40,8 +40,8 @@ reach-requires c κs =
     let t = start .pre .0 in
     let allowed = start .pre .1 .0 in (
       omega (arith, one-of-six t allowed),
-      t .state .places .0,
-      t .state .places .1,
+      t .state .holds .places .0,
+      t .state .holds .places .1,
       path-comes t allowed (joined-then t allowed (c .before .before .before .before .before .joined .ensures) (c .before .before .before .before .if1 .taken))
           (c .before .before .before .path .ensures),
     )

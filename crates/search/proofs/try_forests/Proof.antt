@@ -5,8 +5,8 @@ use Prim.Native.Nat.{_+_, _-_, _≤_}
 use native.Mathlib.Omega.{arith}
 use Rattle.rule.specs.Forests.{limit}
 use Rattle.theory.specs.Search.{tryForests}
-use Rattle.search.specs.declared.Search.the-variants.{Stuck}
-use Rattle.search.specs.Outcome.{Answers, Trying, After}
+use Rattle.search.specs.declared.Outcome.the-variants.{Stuck}
+use Rattle.search.specs.Answers.{Answers, Trying, After}
 use Rattle.search.proofs.AllForests.{none-tried, found-stays, all-tried, waits-on, own-passed, next-found, next-tried}
 use Rattle.search.proofs.try_forests.Statement.{statement}
 use Rattle.search.proofs.try_forests.Tie as tie

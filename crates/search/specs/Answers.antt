@@ -7,8 +7,8 @@ use Rattle.rule.specs.Legal.{Design}
 use Rattle.theory.specs.Search.{Waiting, edgeAt, Result, turns, search}
 use Rattle.theory.specs.Search.Result.{found, going}
 use Rattle.theory.proofs.Search.Reached.{Grows}
-use Rattle.search.specs.declared.Search.{Search}
-use Rattle.search.specs.declared.Search.the-variants.{Found, Stuck}
+use Rattle.search.specs.declared.Outcome.{Outcome}
+use Rattle.search.specs.declared.Outcome.the-variants.{Found, Stuck}
 use Rattle.search.specs.Setting.{Setting, Given, Holds, State}
 
 -- the model has come to an outcome with edges waiting of which P holds
@@ -18,7 +18,7 @@ pub record Comes (P : Waiting → Type 0) (outcome : Waiting → Result) (model 
   pub holds : P waiting
 
 -- the answer is what the model has come to
-abbrev pub Answers : (Waiting → Type 0) → Result → Search → Type 0
+abbrev pub Answers : (Waiting → Type 0) → Result → Outcome → Type 0
 Answers P model (Found place forest) = Comes P (found place forest) model
 Answers P model (Stuck n) = Comes (λ w. (n ≡ length (w .queue)) × P w) going model
 
@@ -26,13 +26,13 @@ Answers P model (Stuck n) = Comes (λ w. (n ≡ length (w .queue)) × P w) going
 
 -- the turns of the first places, and the arrays after them
 abbrev pub Turned : {a k : ℕ} {ones others colours forests root way edge : List ℕ} → Given a k ones others colours forests root way edge
-    → (queue from seen : List ℕ) (places : ℕ) → Search → Type 0
+    → (queue from seen : List ℕ) (places : ℕ) → Outcome → Type 0
 Turned {edge = edge} g queue from seen places =
     Answers (State (g .d) (g .forest) edge (g .size) queue from seen) (turns (g .d) (g .forest) (g .d .m) places)
 
 -- the whole search, and what waits at its end
 abbrev pub Searched : {a k : ℕ} {ones others colours forests root way edge : List ℕ} → Given a k ones others colours forests root way edge
-    → (queue from : List ℕ) → Search → Type 0
+    → (queue from : List ℕ) → Outcome → Type 0
 Searched g queue from = Answers (λ w. Holds w queue from) (search (g .d) (g .forest) (g .d .m))
 
 -- ---- one turn
