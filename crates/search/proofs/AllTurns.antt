@@ -8,8 +8,7 @@ use mathlib.Core.List.{List, _∷_, []}
 use Prim.Native.Nat.{ℕ, zero, suc, _+_, _-_, _≤_, _<_}
 use native.Mathlib.Numerals.{add-one}
 use native.Mathlib.Omega.{arith}
-use lib.ListN.{length, getD, take}
-use lib.Seq.{getD-take}
+use lib.ListN.{length, getD}
 use Rattle.rule.specs.Sets.{Is, _=?_, _<?_, In, at}
 use Rattle.rule.specs.Legal.{Design, k}
 use Rattle.rule.specs.Forests.{limit}
@@ -22,7 +21,7 @@ use Rattle.search.specs.declared.Outcome.{Outcome}
 use Rattle.search.specs.declared.Outcome.the-variants.{Found, Stuck}
 use Rattle.search.specs.Setting.{Setting, Edge, Given, Holds, State}
 use Rattle.search.specs.Answers.{Comes, Answers, Turned, Searched, Trying, After}
-use Rattle.search.proofs.Bound.{few-wait}
+use Rattle.search.proofs.Held.{held-edge, held-few}
 use Rattle.search.proofs.AllForests.{stays}
 
 -- the forests that an edge may stand in
@@ -64,12 +63,11 @@ module _ {a k′ : ℕ} {ones others colours forests root way edge : List ℕ} (
     all-edges = omega (arith, s .holds .0, size-most (g .d) (g .forest) (g .d .m) (s .waiting) (s .holds .1 .sound))
 
     pub few-waiting : n ≤ 379
-    few-waiting = omega (arith, s .holds .0, few-wait (g .setting) (s .waiting) (s .holds .1 .sound))
+    few-waiting = omega (arith, s .holds .0, held-few (s .holds .1 .holds))
 
     -- the edge at a place
     pub queue-at : (p : ℕ) → p < n → getD queue p 0 ≡ edgeAt (s .waiting) p
-    queue-at p h =
-        sym (getD-take (size (s .waiting)) queue p 0 (omega (arith, s .holds .0))) ∙ ap (λ (l : List ℕ). getD l p 0) (s .holds .1 .holds .queued)
+    queue-at p h = held-edge (s .holds .1 .holds) p (omega (arith, s .holds .0))
 
     -- all have had their turns
     pub all-over : n ≤ q → q ≤ g .d .m → Searched g queue from (Stuck n)

@@ -1,4 +1,5 @@
 pub mod Filled
+pub mod Held
 pub mod Numbers
 pub mod Waited
 pub mod Bits
@@ -10,3 +11,4 @@ pub mod OneForest
 pub mod AllForests
 pub mod AllTurns
 pub mod Beginning
+pub mod Leading

@@ -22,7 +22,7 @@ use Rattle.search.specs.declared.Outcome.{Outcome}
 use Rattle.search.specs.declared.Outcome.the-variants.{Found, Stuck}
 use Rattle.search.specs.Words.{Carries, standing, Coming, Came}
 use Rattle.search.specs.Answers.{Comes, Answers, Trying, Further, After}
-use Rattle.search.proofs.Bound.{few-wait}
+use Rattle.search.proofs.Held.{held-few}
 use Rattle.search.proofs.Paths.{joined-ends, carries-fresh}
 use Rattle.search.proofs.Tried.{try-joined, try-free, next-room, reached-further}
 
@@ -34,7 +34,7 @@ module _ {u v place n : ℕ} {root way edge queue from seen : List ℕ} (t : Try
   is-edge = subst (In (t .d .m)) (t .is-x) (t .state .sound .edges place waits-here)
 
   pub few-places : n ≤ 379
-  few-places = omega (arith, t .waits, few-wait (t .setting) (t .w) (t .state .sound))
+  few-places = omega (arith, t .waits, held-few (t .state .holds))
 
   pub ends-are : In 64 u × In 64 v
   ends-are = (subst (In 64) (t .one) (t .setting .one (t .x) is-edge), subst (In 64) (t .other) (t .setting .other (t .x) is-edge))

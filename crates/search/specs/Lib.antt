@@ -2,3 +2,4 @@ pub mod Filled
 pub mod Words
 pub mod Setting
 pub mod Answers
+pub mod Ends

@@ -10,6 +10,7 @@ ghost use Rattle.theory.specs.Search.{tryForest, tryForests};
 ghost use Rattle.search.specs.Filled.{TakesIn};
 ghost use Rattle.search.specs.Words.{Coming, Came};
 ghost use Rattle.search.specs.Setting.{Given, Sought};
+ghost use Rattle.search.specs.Ends.{Led, Traced};
 ghost use Rattle.search.specs.Answers.{Answers, Turned, Searched, Trying, After};
 
 // Where the search has come to: its end, at a place of the queue, in a forest where the edge there is free; or no end, and so many edges
@@ -298,4 +299,19 @@ pub fn search(
             &mut seen,
         ),
     }
+}
+
+// The path to a place, its last edge first and without the new edge: written to the first places of an array, and how many they are.
+pub fn trail(place: usize, queue: &[u16; 379], from: &[u16; 379], path: &mut [u16; 379]) -> usize
+    requires { ⌜ (length (now path) ≡ 379) × Led place (now queue) (now from) ⌝ }
+    ensures { λ r. ⌜ ((t : Led place (now (queue .entry)) (now (from .entry))) → Traced (t .w) place (now (path .entry)) (now (path .exit)) r) ⌝ }
+{
+    let mut q = place;
+    let mut n: usize = 0;
+    while q != 0 {
+        path[n] = queue[q];
+        q = from[q] as usize;
+        n = n + 1;
+    }
+    n
 }
