@@ -2,15 +2,18 @@
 -- taken away; an empty word carries nothing; and the lowest bit has the smallest number where larger bits have larger ones.
 -- Assumes nothing.
 use mathlib.Core.Path.{_≡_, refl, sym, ap, _∙_, subst}
-use mathlib.Core.Logic.{_≢_}
+use mathlib.Core.Logic.{⊎-elim, _≢_}
 use mathlib.Core.Bool.{Bool, false≢true}
 use Prim.Native.Nat.{ℕ, _≤_, _<_}
 use native.Mathlib.Omega.{arith}
-use Rattle.rule.specs.Sets.{Is, _and_, isnt, _=?_, Set, In, _without_}
-use Rattle.rule.proofs.Tests.{and-make, and-l, and-r, isnt-make, isnt-not, eq-of, eq-is, without-old, without-ne, without-make}
+use Rattle.rule.specs.Sets.{Is, _and_, _or_, isnt, _=?_, Set, In, _without_}
+use Rattle.rule.proofs.Tests.{same-test, and-make, and-l, and-r, or-l, or-elim, isnt-make, isnt-not, eq-of, eq-is, without-old, without-ne, without-make}
 use Rattle.words.specs.Bits.{bit, Without}
 use Rattle.words.proofs.Bits.{bit-zero}
 use Rattle.search.specs.Words.{Carries}
+
+pub or-none : (a b : Bool) → ¬ (Is b) → (a or b) ≡ a
+or-none a b n = same-test _ _ (λ t. ⊎-elim (λ k. k) (λ k. absurd (n k)) (or-elim _ _ t)) (λ t. or-l _ _ t)
 
 module _ (x t y : ℕ) (w : Without x t y) where
   pub bit-kept : (j : ℕ) → Is (bit x j) → j ≢ t → Is (bit y j)

@@ -10,7 +10,7 @@ use Rattle.theory.specs.Search.{Waiting, edgeAt, fromAt}
 use Rattle.search.specs.Setting.{Holds}
 
 -- the front of an array
-front-at : (whole list : List ℕ) (n p : ℕ) → take n whole ≡ list → p < n → getD whole p 0 ≡ getD list p 0
+pub front-at : (whole list : List ℕ) (n p : ℕ) → take n whole ≡ list → p < n → getD whole p 0 ≡ getD list p 0
 front-at whole list n p q h = sym (getD-take n whole p 0 h) ∙ ap (λ (l : List ℕ). getD l p 0) q
 
 module _ {w : Waiting} {queue from : List ℕ} (h : Holds w queue from) where

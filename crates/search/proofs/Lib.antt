@@ -12,3 +12,5 @@ pub mod AllForests
 pub mod AllTurns
 pub mod Beginning
 pub mod Leading
+pub mod Listing
+pub mod Marking

@@ -64,7 +64,7 @@ module _ {u v place n : ℕ} {root way edge queue from seen : List ℕ} (t : Try
       between = is-on ∙ ap₂ (λ (a b : ℕ). bitXor (word way f a) (word way f b)) (sym (t .one)) (sym (t .other))
 
       -- what comes to wait
-      abbrev pub path-comes : Coming (start f) (bitXor (bitOr (getD seen (f - 1) 0) on) (getD seen (f - 1) 0)) n edge
+      abbrev pub path-comes : Coming (standing edge (start f)) (bitXor (bitOr (getD seen (f - 1) 0) on) (getD seen (f - 1) 0)) n 379
       path-comes =
           record {
             edges = fresh (t .d) (t .forest) (t .w) (t .x) f;

@@ -3,7 +3,7 @@
 -- stay, since no edge of theirs is on the path.
 -- Assumes nothing.
 use mathlib.Core.Path.{_≡_, refl, sym, ap, ap₂, _∙_, subst}
-use mathlib.Core.Logic.{⊎-elim, _≢_}
+use mathlib.Core.Logic.{_≢_}
 use mathlib.Core.Bool.{Bool}
 use mathlib.Core.List.{List, _++_}
 use Prim.Native.Nat.{ℕ, suc, _+_, _-_, _≤_, _<_}
@@ -14,7 +14,7 @@ use lib.Seq.{getD-set-same, getD-set-other}
 use Rattle.rule.specs.Sets.{Is, _or_, _=?_, Set, In, count, numbers}
 use Rattle.rule.specs.Legal.{Design}
 use Rattle.rule.specs.Forests.{limit, inForest}
-use Rattle.rule.proofs.Tests.{same-test, is-false, or-l, or-elim, eq-of, eq-is, by-eq}
+use Rattle.rule.proofs.Tests.{is-false, eq-of, eq-is, by-eq}
 use Rattle.rule.proofs.Counting.{length-numbers}
 use Rattle.theory.specs.Joined.{spans, onPath}
 use Rattle.theory.specs.Search.{Waiting, edgeAt, Result, fresh, reach, pick, tryForest}
@@ -30,6 +30,7 @@ use Rattle.search.specs.Words.{Came}
 use Rattle.search.specs.Setting.{Setting, Holds, State}
 use Rattle.search.specs.Answers.{Further}
 use Rattle.search.proofs.Filled.{filled-length, filled-front}
+use Rattle.search.proofs.Bits.{or-none}
 use Rattle.search.proofs.Bound.{few-wait}
 use Rattle.search.proofs.Paths.{on-path}
 
@@ -55,9 +56,6 @@ module _ (d : Design) (forest : ℕ → ℕ) (place x f : ℕ) (w : Waiting) whe
   try-free ne n = try-other ne ∙ ap (λ (b : Bool). pick b (going (reach d forest place x f w)) (found place f w)) (is-false _ n)
 
 -- ---- the arrays
-
-or-none : (a b : Bool) → ¬ (Is b) → (a or b) ≡ a
-or-none a b n = same-test _ _ (λ t. ⊎-elim (λ k. k) (λ k. absurd (n k)) (or-elim _ _ t)) (λ t. or-l _ _ t)
 
 module _ {d : Design} {forest : ℕ → ℕ} {root way who edge sizes : List ℕ} (s : Setting d forest root way who edge sizes) (w : Waiting)
     (queue from seen : List ℕ) (state : State d forest edge sizes queue from seen w) (place x f : ℕ) (here : place < size w) (is-x : edgeAt w place ≡ x)

@@ -2,15 +2,15 @@
 ghost use mathlib.Core.Path.{_≡_};
 ghost use mathlib.Core.Bool.{cond};
 ghost use mathlib.Core.Logic.{_≢_};
-ghost use Prim.Native.Nat.{_+_, _<_, _≤_};
-ghost use lib.ListN.{length};
-ghost use Rattle.rule.specs.Sets.{_=?_, In, numbers};
+ghost use Prim.Native.Nat.{ℕ, _+_, _*_, _<_, _≤_};
+ghost use lib.ListN.{length, getD};
+ghost use Rattle.rule.specs.Sets.{Is, _=?_, In, numbers};
 ghost use Rattle.rule.specs.Forests.{limit};
 ghost use Rattle.theory.specs.Search.{tryForest, tryForests};
 ghost use Rattle.search.specs.Filled.{TakesIn};
-ghost use Rattle.search.specs.Words.{Coming, Came};
+ghost use Rattle.search.specs.Words.{Coming, standing, Came, Written, isMarked, Marked, Markings};
 ghost use Rattle.search.specs.Setting.{Given, Sought};
-ghost use Rattle.search.specs.Ends.{Led, Traced};
+ghost use Rattle.search.specs.Ends.{Led, Traced, Waits, Listed};
 ghost use Rattle.search.specs.Answers.{Answers, Turned, Searched, Trying, After};
 
 // Where the search has come to: its end, at a place of the queue, in a forest where the edge there is free; or no end, and so many edges
@@ -48,8 +48,8 @@ fn reach(
     size: usize,
     place: u16,
 ) -> usize
-    requires { ⌜ (base ≤ 320) × (length (now queue) ≡ 379) × (length (now from) ≡ 379) × Coming base word size (now edge) ⌝ }
-    ensures { λ r. ⌜ ((t : Coming base word size (now (edge .entry)))
+    requires { ⌜ (base ≤ 320) × (length (now queue) ≡ 379) × (length (now from) ≡ 379) × Coming (standing (now edge) base) word size 379 ⌝ }
+    ensures { λ r. ⌜ ((t : Coming (standing (now (edge .entry)) base) word size 379)
         → Came (numbers (t .edges) (t .most)) size place (now (queue .entry)) (now (from .entry)) (now (queue .exit)) (now (from .exit)) r) ⌝ }
 {
     let mut left = word;
@@ -314,4 +314,70 @@ pub fn trail(place: usize, queue: &[u16; 379], from: &[u16; 379], path: &mut [u1
         n = n + 1;
     }
     n
+}
+
+// The edges at the places 1 to n - 1 of the queue are marked, where none is.
+fn mark(n: usize, queue: &[u16; 379], marks: &mut [u64; 9])
+    requires {
+        ⌜ (1 ≤ n) × (n ≤ 379) × (length (now marks) ≡ 9) × ((q : ℕ) → 1 ≤ q → q < n → getD (now queue) q 0 < 576)
+            × ((y : ℕ) → ¬ (Is (isMarked (now marks) y))) ⌝
+    }
+    ensures { λ _. ⌜ Marked (now (queue .entry)) n (now (marks .exit)) ⌝ }
+{
+    let mut q: usize = 1;
+    while q < n {
+        let e = queue[q];
+        let i = (e / 64) as usize;
+        let bit = words::one((e % 64) as usize);
+        marks[i] = marks[i] | bit;
+        q = q + 1;
+    }
+}
+
+// The numbers of a word's bits, counted from base, are written to the list behind the first places, smallest first.
+fn list_word(base: u16, word: u64, start: usize, list: &mut [u16]) -> usize
+    requires { ⌜ (base ≤ 512) × Coming (λ j. base + j) word start (length (now list)) ⌝ }
+    ensures {
+        λ r. ⌜ ((t : Coming (λ j. base + j) word start (length (now (list .entry))))
+            → Written (now (list .entry)) start (numbers (t .edges) (t .most)) (now (list .exit)) r) ⌝
+    }
+{
+    let mut left = word;
+    let mut n = start;
+    while left != 0 {
+        let t = words::lowest(left);
+        list[n] = base + (t as u16);
+        n = n + 1;
+        left = words::without(left, t);
+    }
+    n
+}
+
+// The marked numbers are written to the first places of the list, smallest first.
+fn list_marked(marks: &[u64; 9], list: &mut [u16]) -> usize
+    requires { ⌜ Markings (now marks) (length (now list)) ⌝ }
+    ensures {
+        λ r. ⌜ ((t : Markings (now (marks .entry)) (length (now (list .entry))))
+            → Written (now (list .entry)) 0 (numbers (isMarked (now (marks .entry))) (t .m)) (now (list .exit)) r) ⌝
+    }
+{
+    let mut n: usize = 0;
+    let mut i: usize = 0;
+    while i < 9 {
+        n = list_word((i * 64) as u16, marks[i], n, list);
+        i = i + 1;
+    }
+    n
+}
+
+// The circuit: the edges that wait, but for the new one, in the first places of the list, smallest first, and how many they are.
+pub fn circuit(n: usize, queue: &[u16; 379], list: &mut [u16]) -> usize
+    requires { ⌜ (378 ≤ length (now list)) × Waits n (now queue) ⌝ }
+    ensures {
+        λ r. ⌜ ((t : Waits n (now (queue .entry))) → Listed (t .w) (t .d .m) n (now (list .entry)) (now (list .exit)) r) ⌝
+    }
+{
+    let mut marks = [0u64; 9];
+    mark(n, queue, &mut marks);
+    list_marked(&marks, list)
 }

@@ -14,7 +14,7 @@ use Rattle.search.proofs.reach.Lts as lts
 
 abbrev Inv-loop : tie.InvT-loop
 Inv-loop base word edge queue₀ from₀ size place left₀ n₀ queue from left n =
-    (t : Coming base word size edge) → Reaching (standing edge base) (t .edges) (t .most) size place queue₀ from₀ queue from left n
+    (t : Coming (standing edge base) word size 379) → Reaching (standing edge base) (t .edges) (t .most) size place queue₀ from₀ queue from left n
 
 abbrev μ-loop : tie.MeasureT-loop
 μ-loop base word edge queue₀ from₀ size place left₀ n₀ queue from left n = left
