@@ -1,0 +1,16 @@
+pub mod Filled
+pub mod Held
+pub mod Numbers
+pub mod Waited
+pub mod Bits
+pub mod Coming
+pub mod Bound
+pub mod Paths
+pub mod Tried
+pub mod OneForest
+pub mod AllForests
+pub mod AllTurns
+pub mod Beginning
+pub mod Leading
+pub mod Listing
+pub mod Marking

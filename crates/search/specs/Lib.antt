@@ -1,0 +1,5 @@
+pub mod Filled
+pub mod Words
+pub mod Setting
+pub mod Answers
+pub mod Ends
