@@ -5,7 +5,6 @@ use mathlib.Core.Path.{_≡_, refl, sym, ap, _∙_, subst, subst₂}
 use mathlib.Core.Logic.{_≢_}
 use Prim.Native.Nat.{ℕ, zero, suc, _≤_, _<_}
 use native.Mathlib.Omega.{arith}
-use lib.ListN.{length}
 use Rattle.rule.specs.declared.Book.{Book}
 use Rattle.rule.specs.Sets.{Is, _=?_, Set, In, put, at}
 use Rattle.rule.specs.Legal.{Design}
@@ -14,14 +13,8 @@ use Rattle.rule.specs.Books.{designOf, forestOf, offered, plus, next, ProfileRa
 use Rattle.rule.specs.Calls.{Adds}
 use Rattle.rule.proofs.Tests.{in-split, put-same, put-other, put-map}
 use Rattle.rule.proofs.Places.{at-set}
+use Rattle.placing.specs.Take.{Full}
 use Rattle.theory.proofs.Legal.Sound.{sound-head, sound-edge, EndsAndColour, arranged-sound}
-
--- a book's arrays have 512 places
-pub record Full (B : Book) : Type 0 where
-  pub ones : length (B .ones) ≡ 512
-  pub others : length (B .others) ≡ 512
-  pub colours : length (B .colours) ≡ 512
-  pub forests : length (B .forests) ≡ 512
 
 module _ (before after : Book) (u v colour : ℕ) (adds : Adds before after u v colour) (full : Full before) (room : before .count < 512) where
   one-after : at (after .ones) ≡ put (at (before .ones)) (next before) u

@@ -1,3 +1,4 @@
 pub mod After
 pub mod Offers
 pub mod Says
+pub mod Seeking

@@ -19,7 +19,8 @@ use Rattle.theory.proofs.Legal.Kept.{kept-make, kept-has, kept-most}
 use Rattle.theory.proofs.Legal.Sound.{sound-arranged}
 use Rattle.theory.proofs.Laws.Grown.{grown-longer}
 use Rattle.theory.proofs.Groups.Longer.{arranged-longer}
-use Rattle.placing.proofs.After.{Full, design-after, sound-after}
+use Rattle.placing.proofs.After.{design-after, sound-after}
+use Rattle.placing.specs.Take.{Full}
 
 module _ (before after : Book) (u v colour : ℕ) (list listed : List ℕ) (count : ℕ) (full : Full before) where
   -- ---- the edge is kept

@@ -25,12 +25,9 @@ use Rattle.theory.proofs.Exchange.Moved.{shift-moves}
 use Rattle.theory.proofs.Search.Outcome.{found-start, found-free, found-arranged, found-kept, stuck-implied}
 use Rattle.theory.proofs.Search.Circuit.{circuit-list}
 use Rattle.theory.proofs.Laws.Plus.{plus-ends}
-use Rattle.theory.proofs.Groups.Longer.{unplacedNew, phi-old, phi-new, arranged-longer, kept-longer}
+use Rattle.theory.proofs.Groups.Longer.{phi-old, phi-new, arranged-longer, kept-longer}
 use Rattle.theory.proofs.Legal.Sound.{sound-ends, sound-arranged}
-
--- the forests of a book, and the offered edge in none
-abbrev pub forestsFor : Book → ℕ → ℕ
-forestsFor B = unplacedNew (designOf B) (forestOf B)
+use Rattle.placing.specs.Seek.{forestsFor}
 
 -- edges of 1 to m + 1 other than the last are edges of 1 to m
 each-earlier : (m : ℕ) (l : List ℕ) → Each (In (suc m)) l → Each (λ z. z ≢ suc m) l → Each (In m) l
@@ -53,6 +50,7 @@ module _ (B : Book) (u v colour : ℕ) (sound : Sound B) (hu : In (B .n) u) (hv 
   offered-ends = plus-ends (designOf B) u v colour (sound-ends B sound) hu hv
 
   pub offered-arranged : Arranged (offered B u v colour) (forestsFor B)
+  unfolding designOf
   offered-arranged = arranged-longer (designOf B) u v colour (forestOf B) (sound-arranged B sound)
 
   pub offered-last : In (offered B u v colour .m) (next B)
