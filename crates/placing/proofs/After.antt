@@ -17,10 +17,10 @@ use Rattle.placing.specs.Take.{Full}
 use Rattle.theory.proofs.Legal.Sound.{sound-head, sound-edge, EndsAndColour, arranged-sound}
 
 module _ (before after : Book) (u v colour : ℕ) (adds : Adds before after u v colour) (full : Full before) (room : before .count < 512) where
-  one-after : at (after .ones) ≡ put (at (before .ones)) (next before) u
+  pub one-after : at (after .ones) ≡ put (at (before .ones)) (next before) u
   one-after = ap at (adds .ones) ∙ at-set (before .ones) (before .count) u (omega (arith, full .ones))
 
-  other-after : at (after .others) ≡ put (at (before .others)) (next before) v
+  pub other-after : at (after .others) ≡ put (at (before .others)) (next before) v
   other-after = ap at (adds .others) ∙ at-set (before .others) (before .count) v (omega (arith, full .others))
 
   colour-after : at (after .colours) ≡ put (at (before .colours)) (next before) colour

@@ -73,7 +73,7 @@ module _ (B : Book) (u v colour : ℕ) (sound : Sound B) (hu : In (B .n) u) (hv 
     after : ℕ → ℕ
     after = shifted phi (next B ∷ pathTo w p) i
 
-    old-path : Each (In (B .count)) (pathTo w p)
+    pub old-path : Each (In (B .count)) (pathTo w p)
     unfolding plus designOf
     old-path = each-earlier (B .count) (pathTo w p) (start .edges) (distinct-away (next B) (pathTo w p) (start .distinct))
 

@@ -60,5 +60,5 @@ pub record Fails (B : Book) (u v colour : ℕ) (list listed : List ℕ) (n : ℕ
 
 -- what seeking answers and leaves in the arrays
 abbrev pub Seeks : Book → (u v colour : ℕ) (list path′ listed : List ℕ) → Place → Type 0
-Seeks B u v colour list path′ listed (Found n f) = Ends B u v colour path′ n f × (listed ≡ list) × (length path′ ≡ 379)
+Seeks B u v colour list path′ listed (Found n f) = Ends B u v colour path′ n f × (listed ≡ list)
 Seeks B u v colour list path′ listed (Stuck n) = Fails B u v colour list listed n
