@@ -1,0 +1,191 @@
+-- `text::head_of` meets its contract: each line that was read leads one line on, and one that was refused is the first fault
+-- (proofs/Heads.antt). Assumes nothing.
+use borrow.Author.Needs.{needs}
+use native.Mathlib.Omega.{arith}
+use mathlib.Core.Path.{_≡_, sym, ap, _∙_, subst}
+use mathlib.Core.List.{List, []}
+use Prim.Native.Nat.{ℕ, _≤_}
+use denote.Ref.{now}
+use Rattle.rule.specs.declared.Reason.{Reason}
+use Rattle.rule.specs.Books.{ProfileRange, BodiesRange, capacity}
+use Rattle.text.specs.declared.Numbered.{Numbered}
+use Rattle.text.specs.Due.{to-a, to-b, to-bodies, to-edges, FirstRange}
+use Rattle.text.specs.Judging.{reasonOf}
+use Rattle.text.specs.Judgements.{FaultAt}
+use Rattle.text.proofs.Ranges.{first-small, second-small}
+use Rattle.text.proofs.Heads.{Stands, stands-first, line-a, fault-a, line-b, fault-b, line-bodies, fault-bodies, line-edges, fault-edges}
+use Rattle.text.proofs.head_of.Statement.{statement}
+use Rattle.text.proofs.head_of.Tie as tie
+
+-- The text, and the numbers that the four lines give, with the place past each.
+abbrev text : tie.After-known-told → List ℕ
+text c = now (c .before .before .before .before .before .before .args .text)
+
+abbrev a : tie.After-known-told → ℕ
+a c = c .before .one .given .0 .0
+
+abbrev second : tie.After-known-told → ℕ
+second c = c .before .one .given .0 .1 .0
+
+abbrev b : tie.After-known-told2 → ℕ
+b c = c .before .two .given .0 .0
+
+abbrev third : tie.After-known-told2 → ℕ
+third c = c .before .two .given .0 .1 .0
+
+abbrev n : tie.After-known-told3 → ℕ
+n c = c .before .three .given .0 .0
+
+abbrev fourth : tie.After-known-told3 → ℕ
+fourth c = c .before .three .given .0 .1 .0
+
+abbrev m : tie.After-known-told4 → ℕ
+m c = c .before .four .given .0 .0
+
+abbrev first : tie.After-known-told4 → ℕ
+first c = c .before .four .given .0 .1 .0
+
+-- Each line is in range, and the text stands past it.
+after-a : (c : tie.After-known-told) → FirstRange (a c) × Stands (text c) (second c) (to-a (a c))
+after-a c = line-a _ _ (stands-first _) (sym (c .before .before .before .number-in .ensures) ∙ c .before .one .given .1)
+
+after-b : (c : tie.After-known-told2)
+    → let l = c .before .before .before .before .before in ProfileRange (a l) (b c) × Stands (text l) (third c) (to-b (a l) (b c))
+after-b c =
+    let l = after-a (c .before .before .before .before .before) in
+    line-b _ _ _ (l .0) (l .1) (sym (c .before .before .before .number-in2 .ensures) ∙ c .before .two .given .1)
+
+after-bodies : (c : tie.After-known-told3)
+    → let k = c .before .before .before .before .before in
+    let l = k .before .before .before .before .before in
+    BodiesRange (n c) × Stands (text l) (fourth c) (to-bodies (a l) (b k) (n c))
+after-bodies c =
+    let l = after-b (c .before .before .before .before .before) in
+    line-bodies _ _ _ _ (l .1) (sym (c .before .before .before .number-in3 .ensures) ∙ c .before .three .given .1)
+
+after-edges : (c : tie.After-known-told4)
+    → let j = c .before .before .before .before .before in
+    let k = j .before .before .before .before .before in
+    let l = k .before .before .before .before .before in
+    (m c ≤ capacity) × Stands (text l) (first c) (to-edges (a l) (b k) (n j) (m c) [])
+after-edges c =
+    let l = after-bodies (c .before .before .before .before .before) in
+    line-edges _ _ _ _ _ (l .1) (sym (c .before .before .before .number-in4 .ensures) ∙ c .before .four .given .1)
+
+-- a refusal's reason is the one that `why` gives
+by-why : {r : Numbered} {w reason : Reason} {s : List ℕ} {line at : ℕ} → w ≡ reasonOf r → r ≡ Numbered.Refused reason
+    → FaultAt s reason line at → FaultAt s w line at
+by-why {s = s} {line} {at} e q f = subst (λ (x : Reason). FaultAt s x line at) (sym (e ∙ ap reasonOf q)) f
+
+slice-aggregate-number-in : tie.Need-slice-aggregate-number-in
+slice-aggregate-number-in c = search needs
+
+number-in-requires : tie.Need-number-in-requires
+number-in-requires c κs = search needs
+
+enum-known-one : tie.Need-enum-known-one
+enum-known-one c = search needs
+
+enum-told : tie.Need-enum-told
+enum-told c = search needs
+
+why-requires : tie.Need-why-requires
+why-requires c κs = search needs
+
+returns : tie.Need-returns
+returns c =
+    let told = c .before in
+    let e = told .enum-told .given .1 in
+    by-why (c .why .ensures) e (fault-a _ (stands-first _) (sym (told .before .before .number-in .ensures) ∙ e))
+
+slice-aggregate-number-in-2 : tie.Need-slice-aggregate-number-in-2
+slice-aggregate-number-in-2 c = search needs
+
+number-in-requires-2 : tie.Need-number-in-requires-2
+number-in-requires-2 c κs = search needs
+
+enum-known-two : tie.Need-enum-known-two
+enum-known-two c = search needs
+
+enum-told-2 : tie.Need-enum-told-2
+enum-told-2 c = search needs
+
+why-requires-2 : tie.Need-why-requires-2
+why-requires-2 c κs = search needs
+
+returns-2 : tie.Need-returns-2
+returns-2 c =
+    let told = c .before in
+    let e = told .enum-told2 .given .1 in
+    by-why (c .why2 .ensures) e
+    (fault-b _ _ (after-a (told .before .before .before .before) .1) (sym (told .before .before .number-in2 .ensures) ∙ e))
+
+slice-aggregate-number-in-3 : tie.Need-slice-aggregate-number-in-3
+slice-aggregate-number-in-3 c = search needs
+
+number-in-requires-3 : tie.Need-number-in-requires-3
+number-in-requires-3 c κs = search needs
+
+enum-known-three : tie.Need-enum-known-three
+enum-known-three c = search needs
+
+enum-told-3 : tie.Need-enum-told-3
+enum-told-3 c = search needs
+
+why-requires-3 : tie.Need-why-requires-3
+why-requires-3 c κs = search needs
+
+returns-3 : tie.Need-returns-3
+returns-3 c =
+    let told = c .before in
+    let e = told .enum-told3 .given .1 in
+    by-why (c .why3 .ensures) e
+    (fault-bodies _ _ _ (after-b (told .before .before .before .before) .1) (sym (told .before .before .number-in3 .ensures) ∙ e))
+
+slice-aggregate-number-in-4 : tie.Need-slice-aggregate-number-in-4
+slice-aggregate-number-in-4 c = search needs
+
+number-in-requires-4 : tie.Need-number-in-requires-4
+number-in-requires-4 c κs = search needs
+
+enum-known-four : tie.Need-enum-known-four
+enum-known-four c = search needs
+
+enum-told-4 : tie.Need-enum-told-4
+enum-told-4 c = search needs
+
+why-requires-4 : tie.Need-why-requires-4
+why-requires-4 c κs = search needs
+
+returns-4 : tie.Need-returns-4
+returns-4 c =
+    let told = c .before in
+    let e = told .enum-told4 .given .1 in
+    by-why (c .why4 .ensures) e
+    (fault-edges _ _ _ _ (after-bodies (told .before .before .before .before) .1) (sym (told .before .before .number-in4 .ensures) ∙ e))
+
+cast-t31 : tie.Need-cast-t31
+cast-t31 c =
+    let l = c .before .before .before .before .before .before .before .before .before .before in
+    omega (arith, first-small (after-a (l .before .before .before .before .before) .0))
+
+cast-t32 : tie.Need-cast-t32
+cast-t32 c = omega (arith, second-small (after-b (c .before .before .before .before .before .before .before .before .before .before) .0))
+
+cast-t33 : tie.Need-cast-t33
+cast-t33 c = omega (arith, after-bodies (c .before .before .before .before .before) .0 .high)
+
+cast-t34 : tie.Need-cast-t34
+cast-t34 c = omega (arith, after-edges c .0)
+
+returns-5 : tie.Need-returns-5
+returns-5 c = let s = after-edges c .1 in record { within = s .within; leads = s .leads }
+
+pub head-of-spec : {M : Type 1} → statement M
+head-of-spec =
+    let one = tie.spec slice-aggregate-number-in number-in-requires enum-known-one enum-told why-requires in
+    let two = one returns slice-aggregate-number-in-2 number-in-requires-2 enum-known-two enum-told-2 in
+    let three = two why-requires-2 returns-2 slice-aggregate-number-in-3 number-in-requires-3 in
+    let four = three enum-known-three enum-told-3 why-requires-3 returns-3 slice-aggregate-number-in-4 in
+    let five = four number-in-requires-4 enum-known-four enum-told-4 why-requires-4 returns-4 cast-t31 in
+    tie.close (five cast-t32 cast-t33 cast-t34 returns-5)

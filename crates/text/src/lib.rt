@@ -1,0 +1,387 @@
+// Book text: reading a line, judging a text, and writing numbers. What they mean is said in specs/, in the words of document 01.
+pub mod put;
+
+use rule::Reason;
+ghost use mathlib.Core.Path.{_≡_};
+ghost use Prim.Native.Nat.{_+_, _≤_};
+ghost use lib.ListN.{length, getD, drop};
+ghost use Rattle.text.specs.Lines.{firstLine};
+ghost use Rattle.text.specs.Readings.{digitOf, taken, readNumber, readField, begins, beginsAt, readNumberLine, readEnds, readEdge};
+ghost use Rattle.text.specs.Judging.{within, readNumbered, reasonOf, readStep};
+ghost use Rattle.text.specs.Judgements.{HeadFound, IsHead, TextFound, Judges, Hands};
+
+// What reading a number finds: its value, and how many bytes were used or, at a place of a text, the place past it.
+pub enum Reading {
+    Value(usize, usize),
+    Nothing,
+}
+
+// What reading an edge line finds: its two bodies, its colour (1 red, 2 black) and the place past its LF.
+pub enum EdgeLine {
+    Joins {
+        one: usize,
+        other: usize,
+        colour: u8,
+        next: usize,
+    },
+    Nothing,
+}
+
+// A number line in range, as its value and the place past it; or why not.
+pub enum Numbered {
+    Value(usize, usize),
+    Refused(Reason),
+}
+
+// An edge line in range, as the place past it; or why not.
+pub enum Step {
+    On(usize),
+    Refused(Reason),
+}
+
+// The numbers of the four lines of the head, and the place past them.
+pub struct Head {
+    pub a: u8,
+    pub b: u8,
+    pub n: u8,
+    pub edges: u16,
+    pub first: usize,
+}
+
+// The head of a text, or its first fault: the reason, the line's number and the place where the line begins.
+pub enum Found {
+    Fine(Head),
+    Fault(Reason, usize, usize),
+}
+
+// What a text is: a sheet in range, with the number of its edges and the place of its first edge line; or refused, with the number of
+// the line at fault, counted from 1.
+pub enum Judgement {
+    Sheet {
+        a: u8,
+        b: u8,
+        n: u8,
+        edges: u16,
+        first: usize,
+    },
+    Refused(Reason, usize),
+}
+
+// The byte at a place, or 0 past the end: no line has a byte 0.
+fn byte(s: &[u8], i: usize) -> u8
+    ensures { λ r. ⌜ r ≡ getD (now (s .entry)) i 0 ⌝ }
+{
+    if i < s.len() { s[i] } else { 0 }
+}
+
+// The digit that a byte is, or 10 where it is none.
+fn digit_of(x: u8) -> usize
+    ensures { λ r. ⌜ r ≡ digitOf x ⌝ }
+{
+    if x < b'0' {
+        return 10;
+    }
+    if b'9' < x {
+        return 10;
+    }
+    (x - b'0') as usize
+}
+
+// What was taken: at least one digit is wanted.
+fn taken(value: usize, used: usize) -> Reading
+    ensures { λ r. ⌜ r ≡ taken value used ⌝ }
+{
+    if used == 0 {
+        Reading::Nothing
+    } else {
+        Reading::Value(value, used)
+    }
+}
+
+// The number of at most `most` digits that `s` begins with. After a leading zero no digit belongs to it.
+pub fn number(s: &[u8], most: usize) -> Reading
+    requires { ⌜ most ≤ 5 ⌝ }
+    ensures { λ r. ⌜ r ≡ readNumber most (now (s .entry)) ⌝ }
+{
+    if byte(s, 0) == b'0' {
+        return Reading::Value(0, 1);
+    }
+    let mut value = 0;
+    let mut used = 0;
+    while used < most {
+        let d = digit_of(byte(s, used));
+        if 9 < d {
+            return taken(value, used);
+        }
+        value = 10 * value + d;
+        used += 1;
+    }
+    taken(value, used)
+}
+
+// The number of one to three digits at a place of a text, with the byte `stop` after it.
+pub fn field(text: &[u8], at: usize, stop: u8) -> Reading
+    ensures { λ r. ⌜ r ≡ readField stop (now (text .entry)) at ⌝ }
+{
+    if text.len() < at {
+        return Reading::Nothing;
+    }
+    let r = number(&text[at..], 3);
+    let Reading::Value(value, used) = r else {
+        return Reading::Nothing;
+    };
+    let end = at + used;
+    if byte(text, end) == stop {
+        Reading::Value(value, end + 1)
+    } else {
+        Reading::Nothing
+    }
+}
+
+// Whether `s` begins with `key`.
+fn begins(s: &[u8], key: &[u8]) -> bool
+    ensures { λ r. ⌜ r ≡ begins (now (key .entry)) (now (s .entry)) ⌝ }
+{
+    if s.len() < key.len() {
+        return false;
+    }
+    let mut i = 0;
+    while i < key.len() {
+        if s[i] != key[i] {
+            return false;
+        }
+        i += 1;
+    }
+    true
+}
+
+// Whether `key` stands at a place of a text.
+fn begins_at(text: &[u8], at: usize, key: &[u8]) -> bool
+    ensures { λ r. ⌜ r ≡ beginsAt (now (key .entry)) (now (text .entry)) at ⌝ }
+{
+    if text.len() < at {
+        return false;
+    }
+    begins(&text[at..], key)
+}
+
+// The line of a key and one number at a place of a text.
+pub fn number_line(text: &[u8], at: usize, key: &[u8]) -> Reading
+    ensures { λ r. ⌜ r ≡ readNumberLine (now (key .entry)) (now (text .entry)) at ⌝ }
+{
+    if begins_at(text, at, key) {
+        field(text, at + key.len(), b'\n')
+    } else {
+        Reading::Nothing
+    }
+}
+
+// The two numbers of an edge line, past its key.
+fn ends(text: &[u8], at: usize, colour: u8) -> EdgeLine
+    ensures { λ r. ⌜ r ≡ readEnds (now (text .entry)) at colour ⌝ }
+{
+    let first = field(text, at, b',');
+    let Reading::Value(one, middle) = first else {
+        return EdgeLine::Nothing;
+    };
+    let second = field(text, middle, b'\n');
+    let Reading::Value(other, next) = second else {
+        return EdgeLine::Nothing;
+    };
+    EdgeLine::Joins {
+        one,
+        other,
+        colour,
+        next,
+    }
+}
+
+// The edge line at a place of a text.
+pub fn edge_at(text: &[u8], at: usize) -> EdgeLine
+    ensures { λ r. ⌜ r ≡ readEdge (now (text .entry)) at ⌝ }
+{
+    if begins_at(text, at, b"red=") {
+        return ends(text, at + 4, 1);
+    }
+    if begins_at(text, at, b"black=") {
+        return ends(text, at + 6, 2);
+    }
+    EdgeLine::Nothing
+}
+
+// Whether x is one of low to high.
+fn within(low: usize, high: usize, x: usize) -> bool
+    ensures { λ r. ⌜ r ≡ within low high x ⌝ }
+{
+    if x < low {
+        return false;
+    }
+    x <= high
+}
+
+// The number line of a key at a place, its number one of low to high.
+fn number_in(text: &[u8], at: usize, key: &[u8], low: usize, high: usize, why: Reason) -> Numbered
+    ensures { λ r. ⌜ r ≡ readNumbered (now (key .entry)) low high why (now (text .entry)) at ⌝ }
+{
+    let r = number_line(text, at, key);
+    let Reading::Value(value, next) = r else {
+        return Numbered::Refused(Reason::Line);
+    };
+    if within(low, high, value) {
+        Numbered::Value(value, next)
+    } else {
+        Numbered::Refused(why)
+    }
+}
+
+// The edge line at a place, between two different bodies of 1 to n. An edge from a body to itself is refused for the body first.
+fn edge_in(text: &[u8], at: usize, n: usize) -> Step
+    ensures { λ r. ⌜ r ≡ readStep n (now (text .entry)) at ⌝ }
+{
+    let e = edge_at(text, at);
+    let EdgeLine::Joins {
+        one,
+        other,
+        colour: _,
+        next,
+    } = e
+    else {
+        return Step::Refused(Reason::Line);
+    };
+    if one == other {
+        if within(1, n, one) {
+            return Step::Refused(Reason::SameBody);
+        }
+        return Step::Refused(Reason::Body);
+    }
+    if within(1, n, one) {
+        if within(1, n, other) {
+            return Step::On(next);
+        }
+    }
+    Step::Refused(Reason::Body)
+}
+
+// Why a number line was refused.
+fn why(r: Numbered) -> Reason
+    ensures { λ x. ⌜ x ≡ reasonOf r ⌝ }
+{
+    match r {
+        Numbered::Refused(reason) => reason,
+        Numbered::Value(_, _) => Reason::Line,
+    }
+}
+
+// The four lines of the head.
+fn head_of(text: &[u8]) -> Found
+    ensures { λ r. ⌜ HeadFound (now (text .entry)) r ⌝ }
+{
+    let one = number_in(text, 0, b"a=", 1, 3, Reason::Profile);
+    let Numbered::Value(a, second) = one else {
+        return Found::Fault(why(one), 1, 0);
+    };
+    let two = number_in(text, second, b"b=", 1, 3, Reason::Profile);
+    let Numbered::Value(b, third) = two else {
+        return Found::Fault(why(two), 2, second);
+    };
+    let three = number_in(text, third, b"bodies=", 1, 64, Reason::Bodies);
+    let Numbered::Value(n, fourth) = three else {
+        return Found::Fault(why(three), 3, third);
+    };
+    let four = number_in(text, fourth, b"edges=", 0, 512, Reason::Full);
+    let Numbered::Value(edges, first) = four else {
+        return Found::Fault(why(four), 4, fourth);
+    };
+    Found::Fine(Head {
+        a: a as u8,
+        b: b as u8,
+        n: n as u8,
+        edges: edges as u16,
+        first,
+    })
+}
+
+// The edge lines after a head, and that nothing follows them.
+fn walk(text: &[u8], head: Head) -> Found
+    requires { ⌜ IsHead (now text) head ⌝ }
+    ensures { λ r. ⌜ TextFound (now (text .entry)) r ⌝ }
+{
+    let n = head.n as usize;
+    let edges = head.edges as usize;
+    let mut at = head.first;
+    let mut i = 0;
+    while i < edges {
+        let line = edge_in(text, at, n);
+        match line {
+            Step::On(next) => at = next,
+            Step::Refused(reason) => return Found::Fault(reason, i + 5, at),
+        }
+        i += 1;
+    }
+    if at < text.len() {
+        return Found::Fault(Reason::Line, i + 5, at);
+    }
+    Found::Fine(head)
+}
+
+// The head of a text that is a book, or the first fault of one that is not.
+fn find(text: &[u8]) -> Found
+    ensures { λ r. ⌜ TextFound (now (text .entry)) r ⌝ }
+{
+    let found = head_of(text);
+    match found {
+        Found::Fine(head) => walk(text, head),
+        Found::Fault(reason, line, at) => Found::Fault(reason, line, at),
+    }
+}
+
+// What a text is, for every list of bytes.
+pub fn judge(text: &[u8]) -> Judgement
+    ensures { λ r. ⌜ Judges (now (text .entry)) r ⌝ }
+{
+    let found = find(text);
+    match found {
+        Found::Fine(head) => Judgement::Sheet {
+            a: head.a,
+            b: head.b,
+            n: head.n,
+            edges: head.edges,
+            first: head.first,
+        },
+        Found::Fault(reason, line, _) => Judgement::Refused(reason, line),
+    }
+}
+
+// Where the line that begins at a place ends: at its LF, or at the text's end.
+fn line_end(text: &[u8], at: usize) -> usize
+    requires { ⌜ at ≤ length (now text) ⌝ }
+    ensures { λ r. ⌜ r ≡ at + length (firstLine (drop at (now (text .entry)))) ⌝ }
+{
+    let mut end = at;
+    while end < text.len() {
+        let here = end;
+        end += 1;
+        if text[here] == b'\n' {
+            return here;
+        }
+    }
+    end
+}
+
+// The line at fault, without its LF, as a part of the text; for a missing line, and where nothing is refused, the empty part at the
+// text's end.
+pub fn fault(text: &[u8]) -> &[u8]
+    ensures { λ r. ⌜ Hands (text .entry) r ⌝ }
+{
+    let found = find(text);
+    match found {
+        Found::Fine(_) => {
+            let end = text.len();
+            &text[end..]
+        }
+        Found::Fault(_, _, at) => {
+            let end = line_end(text, at);
+            &text[at..end]
+        }
+    }
+}
