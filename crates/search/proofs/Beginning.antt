@@ -19,12 +19,8 @@ use Rattle.search.specs.declared.Outcome.{Outcome}
 use Rattle.search.specs.declared.Outcome.the-variants.{Stuck}
 use Rattle.search.specs.Setting.{Edge, Sought}
 use Rattle.search.specs.Answers.{Answers, Turned, Trying, After}
+use Rattle.search.proofs.Bits.{zeros-at}
 use Rattle.search.proofs.AllTurns.{limit-is, has-turn, turn-answers}
-
-zeros-at : (n i : ℕ) → _≡_ {A = ℕ} (getD (replicate n 0) i 0) 0
-zeros-at zero i = refl
-zeros-at (suc n) zero = refl
-zeros-at (suc n) (suc i) = zeros-at n i
 
 module _ {a k u v colour number : ℕ} {ones others colours forests root way edge : List ℕ} (s : Sought a k u v colour number ones others colours forests root way edge) where
   -- the new edge is in no slot

@@ -4,13 +4,19 @@
 use mathlib.Core.Path.{_≡_, refl, sym, ap, _∙_, subst}
 use mathlib.Core.Logic.{⊎-elim, _≢_}
 use mathlib.Core.Bool.{Bool, false≢true}
-use Prim.Native.Nat.{ℕ, _≤_, _<_}
+use Prim.Native.Nat.{ℕ, zero, suc, _≤_, _<_}
 use native.Mathlib.Omega.{arith}
+use lib.ListN.{getD, replicate}
 use Rattle.rule.specs.Sets.{Is, _and_, _or_, isnt, _=?_, Set, In, _without_}
 use Rattle.rule.proofs.Tests.{same-test, and-make, and-l, and-r, or-l, or-elim, isnt-make, isnt-not, eq-of, eq-is, without-old, without-ne, without-make}
 use Rattle.words.specs.Bits.{bit, Without}
 use Rattle.words.proofs.Bits.{bit-zero}
 use Rattle.search.specs.Words.{Carries}
+
+pub zeros-at : (n i : ℕ) → _≡_ {A = ℕ} (getD (replicate n 0) i 0) 0
+zeros-at zero i = refl
+zeros-at (suc n) zero = refl
+zeros-at (suc n) (suc i) = zeros-at n i
 
 pub or-none : (a b : Bool) → ¬ (Is b) → (a or b) ≡ a
 or-none a b n = same-test _ _ (λ t. ⊎-elim (λ k. k) (λ k. absurd (n k)) (or-elim _ _ t)) (λ t. or-l _ _ t)
@@ -29,18 +35,18 @@ module _ (of : ℕ → ℕ) (s : Set) (m : ℕ) where
   pub carries-none : (x : ℕ) → Carries of x s m → x ≡ 0 → (y : ℕ) → In m y → ¬ (Is (s y))
   carries-none x c z y h i =
       let k = c .bit-of y h i in
-      false≢true (sym (bit-zero (k .0)) ∙ subst (λ (v : ℕ). Is (bit v (k .0))) z (k .1 .0))
+      false≢true (sym (bit-zero (k .0)) ∙ subst (λ (v : ℕ). Is (bit v (k .0))) z (k .1 .1 .0))
 
-  pub carries-without : (x t y : ℕ) → Carries of x s m → Is (bit x t) → Without x t y → Carries of y (s without of t) m
-  carries-without x t y c here w =
+  pub carries-without : (x t y : ℕ) → Carries of x s m → t < 64 → Is (bit x t) → Without x t y → Carries of y (s without of t) m
+  carries-without x t y c l here w =
       record {
         number =
-            λ j h.
-            let k = c .number j (bit-old x t y w j h) in
-            (k .0, without-make s (of t) (of j) (k .1) (λ q. bit-gone x t y w j h (c .once j t (bit-old x t y w j h) here q)));
+            λ j lj h.
+            let k = c .number j lj (bit-old x t y w j h) in
+            (k .0, without-make s (of t) (of j) (k .1) (λ q. bit-gone x t y w j h (c .once j t lj l (bit-old x t y w j h) here q)));
         bit-of =
             λ z hz i.
             let k = c .bit-of z hz (without-old s (of t) z i) in
-            (k .0, (bit-kept x t y w (k .0) (k .1 .0) (λ q. without-ne s (of t) z i (sym (k .1 .1) ∙ ap of q)), k .1 .1));
-        once = λ i j hi hj q. c .once i j (bit-old x t y w i hi) (bit-old x t y w j hj) q;
+            (k .0, (k .1 .0, (bit-kept x t y w (k .0) (k .1 .1 .0) (λ q. without-ne s (of t) z i (sym (k .1 .1 .1) ∙ ap of q)), k .1 .1 .1)));
+        once = λ i j li lj hi hj q. c .once i j li lj (bit-old x t y w i hi) (bit-old x t y w j hj) q;
       }

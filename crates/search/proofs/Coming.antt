@@ -11,7 +11,7 @@ use lib.ListN.{length, getD, set, replicate}
 use Rattle.rule.specs.Sets.{Is, _or_, Set, In, _with_, _without_, count, numbers}
 use Rattle.rule.proofs.Tests.{never, same-test, by-eq, or-l, or-r, or-elim, put-other, with-self, with-elim, without-old, without-ne}
 use Rattle.rule.proofs.Counting.{count-pos, count-with, count-without, numbers-eq, length-numbers}
-use Rattle.words.specs.Bits.{bit, Without}
+use Rattle.words.specs.Bits.{Lowest, Without}
 use Rattle.search.specs.Filled.{Filled, TakesIn}
 use Rattle.search.specs.Words.{Carries, Coming, Came}
 use Rattle.search.proofs.Filled.{filled-none, filled-repeat}
@@ -45,9 +45,9 @@ reaching-begins of edges most size place word queue from c room lq lf =
 module _ {of : ℕ → ℕ} {edges : Set} {most size place : ℕ} {queue₀ from₀ queue from : List ℕ} {left n : ℕ}
     (r : Reaching of edges most size place queue₀ from₀ queue from left n) where
   -- a bit that is left has room
-  pub reaching-room : (t : ℕ) → Is (bit left t) → n < 379
-  reaching-room t h =
-      let k = r .carried .number t h in
+  pub reaching-room : {t : ℕ} → Lowest left t → n < 379
+  reaching-room {t} low =
+      let k = r .carried .number t (low .small) (low .is-set) in
       omega (arith, r .room, count-pos (r .todo) most (of t) (k .0) (k .1))
 
   -- nothing is left
@@ -61,11 +61,11 @@ module _ {of : ℕ → ℕ} {edges : Set} {most size place : ℕ} {queue₀ from
       (r .came)
 
   -- the edge of a bit comes to wait
-  module _ {t rest : ℕ} {queue′ : List ℕ} (here : Is (bit left t)) (w : Without left t rest) (enough : length from₀ ≡ 379)
+  module _ {t rest : ℕ} {queue′ : List ℕ} (low : Lowest left t) (w : Without left t rest) (enough : length from₀ ≡ 379)
       (takes : TakesIn (of t) size n queue queue′) where
     one-more : Came (numbers (r .done with of t) most) size place queue₀ from₀ queue′ (set from n place) (n + 1)
     one-more =
-        let k = r .carried .number t here in
+        let k = r .carried .number t (low .small) (low .is-set) in
         let new = r .apart (of t) (k .1) in
         let long : length (numbers (r .done with of t) most) ≡ suc (length (numbers (r .done) most)) =
         length-numbers (r .done with of t) most ∙ count-with (r .done) most (of t) (k .0) new ∙ ap suc (sym (length-numbers (r .done) most)) in
@@ -73,17 +73,17 @@ module _ {of : ℕ → ℕ} {edges : Set} {most size place : ℕ} {queue₀ from
           waits = takes .in-order queue₀ (r .done) most (k .0) new (r .came .counts) (r .came .waits);
           reached =
               subst₂ (λ (j p : ℕ). Filled from₀ size (replicate j place) (set from p place)) (sym long) (sym (r .came .counts))
-              (filled-repeat (length (numbers (r .done) most)) place (r .came .reached) (omega (arith, r .came .counts, reaching-room t here)));
+              (filled-repeat (length (numbers (r .done) most)) place (r .came .reached) (omega (arith, r .came .counts, reaching-room low)));
           counts = omega (arith, r .came .counts);
         }
 
     pub reaching-next : Reaching of edges most size place queue₀ from₀ queue′ (set from n place) rest (n + 1)
     reaching-next =
-        let k = r .carried .number t here in
+        let k = r .carried .number t (low .small) (low .is-set) in
         record {
           done = r .done with of t;
           todo = r .todo without of t;
-          carried = carries-without of (r .todo) most left t rest (r .carried) here w;
+          carried = carries-without of (r .todo) most left t rest (r .carried) (low .small) (low .is-set) w;
           either =
               λ y h.
               by-eq y (of t)

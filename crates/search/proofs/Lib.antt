@@ -14,3 +14,4 @@ pub mod Beginning
 pub mod Leading
 pub mod Listing
 pub mod Marking
+pub mod MarkedList

@@ -21,11 +21,11 @@ use Rattle.search.proofs.Bits.{carries-none, carries-without}
 lowest-first : (base left t : ℕ) (s : Set) (m : ℕ) → Carries (λ j. base + j) left s m → Lowest left t
     → numbers s m ≡ (base + t) ∷ numbers (s without (base + t)) m
 lowest-first base left t s m c low =
-    let k = c .number t (low .is-set) in
+    let k = c .number t (low .small) (low .is-set) in
     numbers-first s m (base + t) (k .0) (k .1)
     (λ y h i.
     let at = c .bit-of y h i in
-    by-le t (at .0) (λ l. omega (arith, at .1 .1)) (λ l. absurd (low .lowest (at .0) l (at .1 .0))))
+    by-le t (at .0) (λ l. omega (arith, at .1 .1 .1)) (λ l. absurd (low .lowest (at .0) l (at .1 .1 .0))))
 
 pub record Listing (base : ℕ) (edges : Set) (most size : ℕ) (before now : List ℕ) (left n : ℕ) : Type 0 where
   pub done : List ℕ
@@ -76,7 +76,7 @@ module _ {base size word : ℕ} {before : List ℕ} (t : Coming (λ j. base + j)
           record {
             done = r .done ++ ((base + b) ∷ []);
             todo = rest;
-            carried = carries-without (λ j. base + j) (r .todo) (t .most) left b left′ (r .carried) (low .is-set) w;
+            carried = carries-without (λ j. base + j) (r .todo) (t .most) left b left′ (r .carried) (low .small) (low .is-set) w;
             all = append-snoc (r .done) (base + b) (numbers rest (t .most)) ∙ ap (λ (l : List ℕ). r .done ++ l) (sym first) ∙ r .all;
             written =
                 record {

@@ -75,29 +75,41 @@ module _ {d : Design} {forest : ℕ → ℕ} {root way who edge sizes : List ℕ
         (λ l. l)
 
     module _ (w : Waiting) (old : ℕ) (marks : (j : ℕ) → j < filled sizes f → bit old j ≡ w .seen (slot edge f j)) where
-      pub carries-fresh : Carries (standing edge (start f)) (bitXor (bitOr old between) old) (fresh d forest w x f) (d .m)
+      -- the slots on the path that are not yet seen
+      abbrev news : ℕ
+      news = bitXor (bitOr old between) old
+
+      new-on : (j : ℕ) → Is (bit news j) → Is (bit between j)
+      new-on j t = and-l _ _ (sym (fresh-bit between old j) ∙ t)
+
+      new-fresh : (j : ℕ) → Is (bit news j) → Is (fresh d forest w x f (slot edge f j))
       unfolding fresh
+      new-fresh j t =
+          let h = on-slot j (new-on j t) in
+          and-make _ _ (sym (on-path j h) ∙ new-on j t) (subst (λ (b : Bool). Is (isnt b)) (marks j h) (and-r (bit between j) _ (sym (fresh-bit between old j) ∙ t)))
+
+      fresh-new : (j : ℕ) → j < filled sizes f → Is (fresh d forest w x f (slot edge f j)) → Is (bit news j)
+      unfolding fresh
+      fresh-new j h t =
+          fresh-bit between old j
+          ∙ and-make _ _ (on-path j h ∙ and-l _ _ t) (subst (λ (b : Bool). Is (isnt b)) (sym (marks j h)) (and-r (onPath d (inForest forest f) x (slot edge f j)) _ t))
+
+      fresh-forest : (y : ℕ) → Is (fresh d forest w x f y) → forest y ≡ f
+      unfolding fresh
+      fresh-forest y t = forest-is forest f y (path-in d (inForest forest f) x y (and-l _ _ t))
+
+      pub carries-fresh : Carries (standing edge (start f)) news (fresh d forest w x f) (d .m)
       carries-fresh =
           record {
-            number =
-                λ j t.
-                let h = on-slot j (on j t) in
-                (slot-edge j h, and-make _ _ (sym (on-path j h) ∙ on j t) (subst (λ (b : Bool). Is (isnt b)) (marks j h) (and-r (bit between j) _ (sym (fresh-bit between old j) ∙ t))));
+            number = λ j _ t. (slot-edge j (on-slot j (new-on j t)), new-fresh j t);
             bit-of =
                 λ y h t.
-                let path : Is (onPath d (inForest forest f) x y) = and-l _ _ t in
-                let at = s .tabled .slots f hf .slot-of y h (forest-is forest f y (path-in d (inForest forest f) x y path)) in
-                let j = at .0 in (
-                  j,
+                let at = s .tabled .slots f hf .slot-of y h (fresh-forest y t) in (
+                  at .0,
                   (
-                    fresh-bit between old j
-                        ∙ and-make _ _ (on-path j (at .1 .0) ∙ subst (λ (z : ℕ). Is (onPath d (inForest forest f) x z)) (sym (at .1 .1)) path)
-                        (subst (λ (b : Bool). Is (isnt b)) (ap (w .seen) (sym (at .1 .1)) ∙ sym (marks j (at .1 .0))) (and-r (onPath d (inForest forest f) x y) _ t)),
-                    at .1 .1,
+                    omega (arith, at .1 .0, s .tabled .slots f hf .most),
+                    (fresh-new (at .0) (at .1 .0) (subst (λ (z : ℕ). Is (fresh d forest w x f z)) (sym (at .1 .1)) t), at .1 .1),
                   ),
                 );
-            once = λ i j hi hj q. s .tabled .slots f hf .once i j (on-slot i (on i hi)) (on-slot j (on j hj)) q;
+            once = λ i j _ _ hi hj q. s .tabled .slots f hf .once i j (on-slot i (new-on i hi)) (on-slot j (new-on j hj)) q;
           }
-        where
-          on : (j : ℕ) → Is (bit (bitXor (bitOr old between) old) j) → Is (bit between j)
-          on j t = and-l _ _ (sym (fresh-bit between old j) ∙ t)

@@ -7,11 +7,11 @@ use Rattle.rule.specs.Sets.{Is, Set, In, count, numbers}
 use Rattle.words.specs.Bits.{bit}
 use Rattle.search.specs.Filled.{Filled}
 
--- bit j of the word stands for the number `of j`: those of 1 to m that are in s are the numbers of its bits, each once
+-- bit j of the word, of 64, stands for the number `of j`: those of 1 to m that are in s are the numbers of its bits, each once
 pub record Carries (of : ℕ → ℕ) (word : ℕ) (s : Set) (m : ℕ) : Type 0 where
-  pub number : (j : ℕ) → Is (bit word j) → In m (of j) × Is (s (of j))
-  pub bit-of : (y : ℕ) → In m y → Is (s y) → (j : ℕ) × (Is (bit word j) × (of j ≡ y))
-  pub once : (i j : ℕ) → Is (bit word i) → Is (bit word j) → of i ≡ of j → i ≡ j
+  pub number : (j : ℕ) → j < 64 → Is (bit word j) → In m (of j) × Is (s (of j))
+  pub bit-of : (y : ℕ) → In m y → Is (s y) → (j : ℕ) × ((j < 64) × (Is (bit word j) × (of j ≡ y)))
+  pub once : (i j : ℕ) → i < 64 → j < 64 → Is (bit word i) → Is (bit word j) → of i ≡ of j → i ≡ j
 
 -- the numbers that stand in a table from the index `base` on
 abbrev pub standing : List ℕ → ℕ → ℕ → ℕ

@@ -318,10 +318,8 @@ pub fn trail(place: usize, queue: &[u16; 379], from: &[u16; 379], path: &mut [u1
 
 // The edges at the places 1 to n - 1 of the queue are marked, where none is.
 fn mark(n: usize, queue: &[u16; 379], marks: &mut [u64; 9])
-    requires {
-        ⌜ (1 ≤ n) × (n ≤ 379) × (length (now marks) ≡ 9) × ((q : ℕ) → 1 ≤ q → q < n → getD (now queue) q 0 < 576)
-            × ((y : ℕ) → ¬ (Is (isMarked (now marks) y))) ⌝
-    }
+    requires { ⌜ (1 ≤ n) × (n ≤ 379) × (length (now marks) ≡ 9) × ((q : ℕ) → 1 ≤ q → q < n → getD (now queue) q 0 < 576)
+        × ((y : ℕ) → ¬ (Is (isMarked (now marks) y))) ⌝ }
     ensures { λ _. ⌜ Marked (now (queue .entry)) n (now (marks .exit)) ⌝ }
 {
     let mut q: usize = 1;
@@ -337,10 +335,8 @@ fn mark(n: usize, queue: &[u16; 379], marks: &mut [u64; 9])
 // The numbers of a word's bits, counted from base, are written to the list behind the first places, smallest first.
 fn list_word(base: u16, word: u64, start: usize, list: &mut [u16]) -> usize
     requires { ⌜ (base ≤ 512) × Coming (λ j. base + j) word start (length (now list)) ⌝ }
-    ensures {
-        λ r. ⌜ ((t : Coming (λ j. base + j) word start (length (now (list .entry))))
-            → Written (now (list .entry)) start (numbers (t .edges) (t .most)) (now (list .exit)) r) ⌝
-    }
+    ensures { λ r. ⌜ ((t : Coming (λ j. base + j) word start (length (now (list .entry))))
+        → Written (now (list .entry)) start (numbers (t .edges) (t .most)) (now (list .exit)) r) ⌝ }
 {
     let mut left = word;
     let mut n = start;
@@ -356,10 +352,8 @@ fn list_word(base: u16, word: u64, start: usize, list: &mut [u16]) -> usize
 // The marked numbers are written to the first places of the list, smallest first.
 fn list_marked(marks: &[u64; 9], list: &mut [u16]) -> usize
     requires { ⌜ Markings (now marks) (length (now list)) ⌝ }
-    ensures {
-        λ r. ⌜ ((t : Markings (now (marks .entry)) (length (now (list .entry))))
-            → Written (now (list .entry)) 0 (numbers (isMarked (now (marks .entry))) (t .m)) (now (list .exit)) r) ⌝
-    }
+    ensures { λ r. ⌜ ((t : Markings (now (marks .entry)) (length (now (list .entry))))
+        → Written (now (list .entry)) 0 (numbers (isMarked (now (marks .entry))) (t .m)) (now (list .exit)) r) ⌝ }
 {
     let mut n: usize = 0;
     let mut i: usize = 0;
@@ -373,9 +367,7 @@ fn list_marked(marks: &[u64; 9], list: &mut [u16]) -> usize
 // The circuit: the edges that wait, but for the new one, in the first places of the list, smallest first, and how many they are.
 pub fn circuit(n: usize, queue: &[u16; 379], list: &mut [u16]) -> usize
     requires { ⌜ (378 ≤ length (now list)) × Waits n (now queue) ⌝ }
-    ensures {
-        λ r. ⌜ ((t : Waits n (now (queue .entry))) → Listed (t .w) (t .d .m) n (now (list .entry)) (now (list .exit)) r) ⌝
-    }
+    ensures { λ r. ⌜ ((t : Waits n (now (queue .entry))) → Listed (t .w) (t .d .m) n (now (list .entry)) (now (list .exit)) r) ⌝ }
 {
     let mut marks = [0u64; 9];
     mark(n, queue, &mut marks);

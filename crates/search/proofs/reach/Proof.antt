@@ -32,7 +32,7 @@ so-far : (c : tie.After-lowest Inv-loop μ-loop)
     → (c .before .before .loop .n < 379) × (c .before .before .before .args .size ≤ c .before .before .loop .n) × (length (c .before .before .loop .queue) ≡ 379)
 so-far c =
     let r = c .before .before .loop .inv (c .before .before .before .pre .3) in (
-      reaching-room r (c .lowest .result) (c .lowest .ensures .is-set),
+      reaching-room r (c .lowest .ensures),
       omega (arith, r .came .counts),
       filled-length (r .came .waits) ∙ c .before .before .before .pre .1,
     )
@@ -67,7 +67,7 @@ loop-less c = search needs
 loop-again : tie.Need-loop-again Inv-loop μ-loop
 loop-again c t =
     let at = c .before .before .before .before .before .before in
-    reaching-next (at .loop .inv t) (c .before .before .before .before .lowest .ensures .is-set) (c .without .ensures) (at .before .pre .2) (c .before .wait .ensures)
+    reaching-next (at .loop .inv t) (c .before .before .before .before .lowest .ensures) (c .without .ensures) (at .before .pre .2) (c .before .wait .ensures)
 
 returns : tie.Need-returns Inv-loop μ-loop
 returns c t = reaching-ends (c .before .loop .inv t) (c .loop-test .left)
