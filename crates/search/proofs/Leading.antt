@@ -7,10 +7,10 @@ use Prim.Native.Nat.{ℕ, zero, suc, _+_, _-_, _≤_, _<_}
 use native.Mathlib.Omega.{arith}
 use lib.ListN.{length, getD, set, length-reverse}
 use Rattle.theory.specs.Search.{Waiting, edgeAt, fromAt, trail, pathTo}
-use Rattle.search.specs.Filled.{Filled}
+use Rattle.reaching.specs.Filled.{Filled}
 use Rattle.search.specs.Ends.{Led, Traced}
-use Rattle.search.proofs.Filled.{filled-none, filled-more}
-use Rattle.search.proofs.Held.{held-edge, held-from, held-few}
+use Rattle.reaching.proofs.Filled.{filled-none, filled-more}
+use Rattle.reaching.proofs.Held.{held-edge, held-from, held-few}
 
 trail-step : (w : Waiting) (steps q : ℕ) (l : List ℕ) → 1 ≤ q → q ≤ steps → trail w steps q l ≡ trail w (steps - 1) (fromAt w q) (edgeAt w q ∷ l)
 unfolding trail

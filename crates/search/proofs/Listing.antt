@@ -12,11 +12,13 @@ use Rattle.rule.specs.Sets.{Is, Set, In, _without_, count, numbers}
 use Rattle.rule.proofs.Tests.{by-le}
 use Rattle.rule.proofs.Counting.{length-numbers}
 use Rattle.words.specs.Bits.{bit, Lowest, Without}
-use Rattle.search.specs.Filled.{Filled}
-use Rattle.search.specs.Words.{Carries, Coming, Written}
-use Rattle.search.proofs.Filled.{filled-none, filled-more}
-use Rattle.search.proofs.Numbers.{numbers-none, numbers-first}
-use Rattle.search.proofs.Bits.{carries-none, carries-without}
+use Rattle.reaching.specs.Filled.{Filled}
+use Rattle.reaching.specs.Words.{Carries, Coming}
+use Rattle.search.specs.Marks.{Written}
+use Rattle.reaching.proofs.Filled.{filled-none, filled-more}
+use Rattle.reaching.proofs.Numbers.{numbers-none}
+use Rattle.search.proofs.Numbers.{numbers-first}
+use Rattle.reaching.proofs.Bits.{carries-none, carries-without}
 
 lowest-first : (base left t : ℕ) (s : Set) (m : ℕ) → Carries (λ j. base + j) left s m → Lowest left t
     → numbers s m ≡ (base + t) ∷ numbers (s without (base + t)) m

@@ -10,10 +10,12 @@ use Rattle.rule.specs.Sets.{Is, _and_, _or_, _=?_, _<?_, Set, In, below, count,
 use Rattle.rule.proofs.Tests.{cases, same-test, and-make, and-l, and-r, or-l, or-r, or-elim, eq-of, eq-is, by-eq, by-le, below-in, below-lt, below-make}
 use Rattle.rule.proofs.Counting.{count-mono, numbers-eq, length-numbers}
 use Rattle.words.specs.Bits.{bit}
-use Rattle.search.specs.Filled.{Filled}
-use Rattle.search.specs.Words.{Carries, Coming, Written, isMarked, Markings}
-use Rattle.search.proofs.Filled.{filled-none, filled-length, filled-then}
-use Rattle.search.proofs.Numbers.{numbers-none, numbers-split}
+use Rattle.reaching.specs.Filled.{Filled}
+use Rattle.reaching.specs.Words.{Carries, Coming}
+use Rattle.search.specs.Marks.{Written, isMarked, Markings}
+use Rattle.reaching.proofs.Filled.{filled-none, filled-length, filled-then}
+use Rattle.reaching.proofs.Numbers.{numbers-none}
+use Rattle.search.proofs.Numbers.{numbers-split}
 
 written-then : {a b c l k : List ℕ} {n n′ : ℕ} → Written a 0 l b n → Written b n k c n′ → Written a 0 (l ++ k) c n′
 written-then {b = b} {c = c} {l = l} {k = k} f g =

@@ -17,11 +17,11 @@ use Rattle.theory.specs.Search.{edgeAt}
 use Rattle.theory.proofs.Search.Image.{seen-count}
 use Rattle.words.specs.Bits.{bit}
 use Rattle.words.proofs.Bits.{bit-zero, bit-or, bit-power}
-use Rattle.search.specs.Filled.{Filled}
-use Rattle.search.specs.Words.{Written, isMarked, Marked, Markings}
+use Rattle.reaching.specs.Filled.{Filled}
+use Rattle.search.specs.Marks.{Written, isMarked, Marked, Markings}
 use Rattle.search.specs.Ends.{Waits, Listed}
-use Rattle.search.proofs.Bits.{zeros-at, or-none}
-use Rattle.search.proofs.Held.{front-at}
+use Rattle.reaching.proofs.Bits.{zeros-at, or-none}
+use Rattle.reaching.proofs.Held.{front-at}
 
 -- ---- one mark more
 

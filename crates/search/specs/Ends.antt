@@ -7,8 +7,8 @@ use Rattle.rule.specs.Sets.{_without_, numbers}
 use Rattle.rule.specs.Legal.{Design}
 use Rattle.theory.specs.Search.{Waiting, fromAt, pathTo}
 use Rattle.theory.proofs.Search.Reached.{Reached}
-use Rattle.search.specs.Filled.{Filled}
-use Rattle.search.specs.Setting.{Holds}
+use Rattle.reaching.specs.Filled.{Filled}
+use Rattle.reaching.specs.Setting.{Holds}
 
 -- edges wait up to a place and perhaps behind it, each of them reached from an earlier place
 pub record Led (place : ℕ) (queue from : List ℕ) : Type 0 where

@@ -5,8 +5,8 @@ use Prim.Native.Nat.{ℕ, _+_, _-_, _*_, _^_, _≤_, _<_}
 use native.Mathlib.Omega.{arith}
 use lib.ListN.{length, getD}
 use Rattle.rule.specs.Sets.{numbers}
-use Rattle.search.specs.Words.{Coming, Written, Markings}
-use Rattle.search.proofs.Filled.{filled-length}
+use Rattle.search.specs.Marks.{Written, Markings}
+use Rattle.reaching.proofs.Filled.{filled-length}
 use Rattle.search.proofs.MarkedList.{passed, word-comes, no-word, next-word, all-words}
 use Rattle.search.proofs.list_marked.Statement.{statement}
 use Rattle.search.proofs.list_marked.Tie as tie

@@ -4,8 +4,8 @@ use mathlib.Core.Path.{_≡_}
 use Prim.Native.Nat.{_+_, _<_}
 use native.Mathlib.Omega.{arith}
 use lib.ListN.{length}
-use Rattle.search.specs.Words.{Coming}
-use Rattle.search.proofs.Filled.{filled-length}
+use Rattle.reaching.specs.Words.{Coming}
+use Rattle.reaching.proofs.Filled.{filled-length}
 use Rattle.search.proofs.Listing.{Listing, listing-begins, listing-room, listing-next, listing-ends}
 use Rattle.search.proofs.list_word.Statement.{statement}
 use Rattle.search.proofs.list_word.Tie as tie

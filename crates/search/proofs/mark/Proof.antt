@@ -6,7 +6,7 @@ use Prim.Native.Nat.{ℕ, _+_, _-_, _/_, _≤_, _<_}
 use native.Mathlib.Omega.{arith}
 use lib.Bits.{bitOr}
 use lib.ListN.{length, getD, set, length-set}
-use Rattle.search.specs.Words.{Marked}
+use Rattle.search.specs.Marks.{Marked}
 use Rattle.search.proofs.Marking.{none-marked, one-marked}
 use Rattle.search.proofs.mark.Statement.{statement}
 use Rattle.search.proofs.mark.Tie as tie

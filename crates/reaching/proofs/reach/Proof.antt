@@ -1,16 +1,16 @@
--- `search::reach`: the edges of the bits passed wait, those of the bits left are still to come (`Reaching`).
+-- `reaching::reach`: the edges of the bits passed wait, those of the bits left are still to come (`Reaching`).
 use borrow.Author.Needs.{needs}
 use mathlib.Core.Path.{_≡_, _∙_}
 use Prim.Native.Nat.{_≤_, _<_}
 use native.Mathlib.Omega.{arith}
 use lib.ListN.{length}
-use Rattle.search.specs.Words.{standing, Coming}
-use Rattle.search.proofs.Filled.{filled-length}
-use Rattle.search.proofs.Coming.{Reaching, reaching-begins, reaching-room, reaching-next, reaching-ends}
-use Rattle.search.proofs.reach.Statement.{statement}
-use Rattle.search.proofs.reach.Tie as tie
-use Rattle.search.proofs.reach.Reads as reads
-use Rattle.search.proofs.reach.Lts as lts
+use Rattle.reaching.specs.Words.{standing, Coming}
+use Rattle.reaching.proofs.Filled.{filled-length}
+use Rattle.reaching.proofs.Coming.{Reaching, reaching-begins, reaching-room, reaching-next, reaching-ends}
+use Rattle.reaching.proofs.reach.Statement.{statement}
+use Rattle.reaching.proofs.reach.Tie as tie
+use Rattle.reaching.proofs.reach.Reads as reads
+use Rattle.reaching.proofs.reach.Lts as lts
 
 abbrev Inv-loop : tie.InvT-loop
 Inv-loop base word edge queue₀ from₀ size place left₀ n₀ queue from left n =

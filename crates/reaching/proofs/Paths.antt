@@ -20,8 +20,8 @@ use Rattle.theory.proofs.Legal.Kept.{forest-make, forest-is}
 use Rattle.words.specs.Bits.{bit}
 use Rattle.words.proofs.Bits.{_differs_, bit-xor, bit-or, differs-same, same-differs}
 use Rattle.tables.specs.Tables.{start, label, word, slot, filled}
-use Rattle.search.specs.Words.{Carries, standing}
-use Rattle.search.specs.Setting.{Setting}
+use Rattle.reaching.specs.Words.{Carries, standing}
+use Rattle.reaching.specs.Setting.{Setting}
 
 -- what is in one word and not in another
 in-one-only : (a b : Bool) → ((b or a) differs b) ≡ (a and isnt b)

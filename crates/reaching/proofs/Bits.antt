@@ -11,7 +11,7 @@ use Rattle.rule.specs.Sets.{Is, _and_, _or_, isnt, _=?_, Set, In, _without_}
 use Rattle.rule.proofs.Tests.{same-test, and-make, and-l, and-r, or-l, or-elim, isnt-make, isnt-not, eq-of, eq-is, without-old, without-ne, without-make}
 use Rattle.words.specs.Bits.{bit, Without}
 use Rattle.words.proofs.Bits.{bit-zero}
-use Rattle.search.specs.Words.{Carries}
+use Rattle.reaching.specs.Words.{Carries}
 
 pub zeros-at : (n i : ℕ) → _≡_ {A = ℕ} (getD (replicate n 0) i 0) 0
 zeros-at zero i = refl

@@ -12,11 +12,11 @@ use Rattle.rule.specs.Sets.{Is, _or_, Set, In, _with_, _without_, count, number
 use Rattle.rule.proofs.Tests.{never, same-test, by-eq, or-l, or-r, or-elim, put-other, with-self, with-elim, without-old, without-ne}
 use Rattle.rule.proofs.Counting.{count-pos, count-with, count-without, numbers-eq, length-numbers}
 use Rattle.words.specs.Bits.{Lowest, Without}
-use Rattle.search.specs.Filled.{Filled, TakesIn}
-use Rattle.search.specs.Words.{Carries, Coming, Came}
-use Rattle.search.proofs.Filled.{filled-none, filled-repeat}
-use Rattle.search.proofs.Numbers.{numbers-none}
-use Rattle.search.proofs.Bits.{carries-none, carries-without}
+use Rattle.reaching.specs.Filled.{Filled, TakesIn}
+use Rattle.reaching.specs.Words.{Carries, Coming, Came}
+use Rattle.reaching.proofs.Filled.{filled-none, filled-repeat}
+use Rattle.reaching.proofs.Numbers.{numbers-none}
+use Rattle.reaching.proofs.Bits.{carries-none, carries-without}
 
 pub record Reaching (of : ℕ → ℕ) (edges : Set) (most size place : ℕ) (queue₀ from₀ queue from : List ℕ) (left n : ℕ) : Type 0 where
   pub done : Set

@@ -25,14 +25,14 @@ use Rattle.theory.proofs.Search.Reached.{size, Reached, Grows, reach-grows, rea
 use Rattle.words.specs.Bits.{bit}
 use Rattle.words.proofs.Bits.{bit-or}
 use Rattle.tables.specs.Tables.{word, slot, filled}
-use Rattle.search.specs.Filled.{Filled}
-use Rattle.search.specs.Words.{Came}
-use Rattle.search.specs.Setting.{Setting, Holds, State}
-use Rattle.search.specs.Answers.{Further}
-use Rattle.search.proofs.Filled.{filled-length, filled-front}
-use Rattle.search.proofs.Bits.{or-none}
-use Rattle.search.proofs.Bound.{few-wait}
-use Rattle.search.proofs.Paths.{on-path}
+use Rattle.reaching.specs.Filled.{Filled}
+use Rattle.reaching.specs.Words.{Came}
+use Rattle.reaching.specs.Setting.{Setting, Holds, State}
+use Rattle.reaching.specs.Trying.{Further}
+use Rattle.reaching.proofs.Filled.{filled-length, filled-front}
+use Rattle.reaching.proofs.Bits.{or-none}
+use Rattle.reaching.proofs.Bound.{few-wait}
+use Rattle.reaching.proofs.Paths.{on-path}
 
 -- ---- the model
 

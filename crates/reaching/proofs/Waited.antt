@@ -15,9 +15,9 @@ use Rattle.rule.specs.Sets.{Is, _and_, isnt, _<?_, Set, In, _with_, only-if, nu
 use Rattle.rule.proofs.Tests.{cases, is-false, and-make, and-l, and-r, isnt-make, isnt-not, lt-of, lt-is, by-eq, by-le, put-other, with-self, with-old}
 use Rattle.rule.proofs.Counting.{count-with, numbers-eq, length-numbers}
 use Rattle.theory.proofs.Numbers.Listing.{numbers-at}
-use Rattle.search.specs.Filled.{Filled, TakesIn}
-use Rattle.search.proofs.Filled.{filled-length}
-use Rattle.search.proofs.Numbers.{numbers-in, numbers-out}
+use Rattle.reaching.specs.Filled.{Filled, TakesIn}
+use Rattle.reaching.proofs.Filled.{filled-length}
+use Rattle.reaching.proofs.Numbers.{numbers-in, numbers-out}
 
 -- ---- the loop
 

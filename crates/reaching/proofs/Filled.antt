@@ -9,7 +9,7 @@ use native.Mathlib.Numerals.{add-one}
 use native.Mathlib.Omega.{arith}
 use lib.ListN.{length, getD, take, drop, set, replicate, length-append, length-replicate, replicate-append-replicate, length-drop, take-append-drop}
 use lib.Seq.{length-take-le, drop-cons, append-snoc, drop-append-add, drop-drop, set-at, take-at}
-use Rattle.search.specs.Filled.{Filled}
+use Rattle.reaching.specs.Filled.{Filled}
 
 pub filled-none : (old : List ℕ) (place : ℕ) → place ≤ length old → Filled old place [] old
 filled-none old place h =

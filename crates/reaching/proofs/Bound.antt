@@ -17,7 +17,7 @@ use Rattle.theory.proofs.Legal.Kept.{limit-most}
 use Rattle.theory.proofs.Search.Reached.{size, Reached}
 use Rattle.theory.proofs.Search.Image.{seen-count}
 use Rattle.tables.specs.Tables.{slot, filled, Slots}
-use Rattle.search.specs.Setting.{Setting}
+use Rattle.reaching.specs.Setting.{Setting}
 
 -- ---- a set whose numbers are all among n has at most n of them
 

@@ -1,0 +1,4 @@
+pub mod Filled
+pub mod Words
+pub mod Setting
+pub mod Trying
