@@ -2,18 +2,14 @@
 -- search has ended, the later forests change nothing (`stays`).
 -- Assumes nothing.
 use mathlib.Core.Path.{_≡_, refl, sym, ap, _∙_, subst}
-use mathlib.Core.Logic.{_≢_}
 use mathlib.Core.List.{List}
-use Prim.Native.Nat.{ℕ, zero, suc, _+_, _≤_, _<_}
+use Prim.Native.Nat.{ℕ, zero, suc, _+_, _≤_}
 use native.Mathlib.Numerals.{add-one}
 use native.Mathlib.Omega.{arith}
-use lib.ListN.{length}
-use Rattle.rule.specs.Legal.{Design}
 use Rattle.rule.proofs.Tests.{by-eq}
 use Rattle.theory.specs.Search.{Waiting, Result, andThen, tryForest, tryForests}
 use Rattle.theory.specs.Search.Result.{found, going}
 use Rattle.theory.proofs.Search.Reached.{size, grows-refl, grows-trans}
-use Rattle.reaching.specs.declared.Tried.{Tried}
 use Rattle.reaching.specs.declared.Tried.the-variants.{Free, Waits}
 use Rattle.reaching.specs.Trying.{Comes, Tells, Trying, After}
 use Rattle.reaching.proofs.Further.{try-own}

@@ -4,10 +4,9 @@
 use mathlib.Core.Path.{_≡_, refl, sym, ap, _∙_, subst}
 use mathlib.Core.Logic.{⊎-elim, _≢_}
 use mathlib.Core.Bool.{Bool, false≢true}
-use Prim.Native.Nat.{ℕ, zero, suc, _≤_, _<_}
-use native.Mathlib.Omega.{arith}
+use Prim.Native.Nat.{ℕ, zero, suc, _<_}
 use lib.ListN.{getD, replicate}
-use Rattle.rule.specs.Sets.{Is, _and_, _or_, isnt, _=?_, Set, In, _without_}
+use Rattle.rule.specs.Sets.{Is, _or_, Set, In, _without_}
 use Rattle.rule.proofs.Tests.{same-test, and-make, and-l, and-r, or-l, or-elim, isnt-make, isnt-not, eq-of, eq-is, without-old, without-ne, without-make}
 use Rattle.words.specs.Bits.{bit, Without}
 use Rattle.words.proofs.Bits.{bit-zero}

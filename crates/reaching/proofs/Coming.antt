@@ -1,19 +1,19 @@
 -- The edges of a word come to wait, bit by bit: those of the bits passed wait already, in number order, and those of the bits that are
 -- left are still to come (`Reaching`).
 -- Assumes nothing.
-use mathlib.Core.Path.{_≡_, refl, sym, ap, ap₂, _∙_, subst, subst₂}
+use mathlib.Core.Path.{_≡_, sym, ap, ap₂, _∙_, subst, subst₂}
 use mathlib.Core.Logic.{⊎-elim}
 use mathlib.Core.Bool.{Bool, true, false, false≢true}
 use mathlib.Core.List.{List}
 use Prim.Native.Nat.{ℕ, suc, _+_, _≤_, _<_}
 use native.Mathlib.Omega.{arith}
-use lib.ListN.{length, getD, set, replicate}
+use lib.ListN.{length, set, replicate}
 use Rattle.rule.specs.Sets.{Is, _or_, Set, In, _with_, _without_, count, numbers}
 use Rattle.rule.proofs.Tests.{never, same-test, by-eq, or-l, or-r, or-elim, put-other, with-self, with-elim, without-old, without-ne}
 use Rattle.rule.proofs.Counting.{count-pos, count-with, count-without, numbers-eq, length-numbers}
 use Rattle.words.specs.Bits.{Lowest, Without}
 use Rattle.reaching.specs.Filled.{Filled, TakesIn}
-use Rattle.reaching.specs.Words.{Carries, Coming, Came}
+use Rattle.reaching.specs.Words.{Carries, Came}
 use Rattle.reaching.proofs.Filled.{filled-none, filled-repeat}
 use Rattle.reaching.proofs.Numbers.{numbers-none}
 use Rattle.reaching.proofs.Bits.{carries-none, carries-without}

@@ -1,24 +1,21 @@
 -- What `reaching::try_forest` asks and answers: the labels tell whether forest f joins the ends of x, the word of its path carries the edges
 -- that come to wait, and with them the model goes on; or it ends in f.
 -- Assumes nothing.
-use mathlib.Core.Path.{_≡_, refl, sym, ap, ap₂, _∙_, subst}
+use mathlib.Core.Path.{_≡_, sym, ap₂, _∙_, subst}
 use mathlib.Core.Logic.{_≢_}
 use mathlib.Core.Bool.{Bool, false, false≢true}
 use mathlib.Core.List.{List}
 use Prim.Native.Nat.{ℕ, _+_, _-_, _≤_, _<_}
 use native.Mathlib.Omega.{arith}
 use lib.Bits.{bitXor, bitOr}
-use lib.ListN.{length, getD, set}
+use lib.ListN.{getD, set}
 use Rattle.rule.specs.Sets.{Is, _=?_, In, count, numbers}
-use Rattle.rule.specs.Legal.{Design}
 use Rattle.rule.specs.Forests.{limit, inForest}
 use Rattle.theory.specs.Joined.{spans}
-use Rattle.theory.specs.Search.{Waiting, edgeAt, fresh, reach, tryForest}
-use Rattle.theory.specs.Search.Result.{found, going}
+use Rattle.theory.specs.Search.{fresh, reach, tryForest}
 use Rattle.theory.proofs.Legal.Kept.{limit-most}
 use Rattle.theory.proofs.Search.Reached.{size, grows-refl}
 use Rattle.tables.specs.Tables.{start, label, word}
-use Rattle.reaching.specs.declared.Tried.{Tried}
 use Rattle.reaching.specs.declared.Tried.the-variants.{Free, Waits}
 use Rattle.reaching.specs.Words.{Carries, standing, Coming, Came}
 use Rattle.reaching.specs.Trying.{Tells, Trying, After}

@@ -11,8 +11,8 @@ use Prim.Native.Nat.{ℕ, zero, suc, _+_, _-_, _≤_, _<_}
 use native.Mathlib.Omega.{arith}
 use lib.ListN.{length, getD, take, drop, set, length-append, List·getD-append}
 use lib.Seq.{append-snoc, set-append-seam, getD-append-seam, getD-append-add, drop-cons, length-take-le}
-use Rattle.rule.specs.Sets.{Is, _and_, isnt, _<?_, Set, In, _with_, only-if, numbers}
-use Rattle.rule.proofs.Tests.{cases, is-false, and-make, and-l, and-r, isnt-make, isnt-not, lt-of, lt-is, by-eq, by-le, put-other, with-self, with-old}
+use Rattle.rule.specs.Sets.{Is, _and_, isnt, _<?_, Set, In, _with_, numbers}
+use Rattle.rule.proofs.Tests.{cases, is-false, and-make, and-l, and-r, isnt-make, isnt-not, lt-of, lt-is, by-eq, put-other, with-self, with-old}
 use Rattle.rule.proofs.Counting.{count-with, numbers-eq, length-numbers}
 use Rattle.theory.proofs.Numbers.Listing.{numbers-at}
 use Rattle.reaching.specs.Filled.{Filled, TakesIn}

@@ -4,12 +4,12 @@
 use mathlib.Core.Path.{_≡_, refl, sym, ap, ap₂, _∙_, subst}
 use mathlib.Core.Logic.{_≢_}
 use mathlib.Core.Bool.{Bool, cond}
-use mathlib.Core.List.{List, _∷_, []}
-use Prim.Native.Nat.{ℕ, zero, suc, _+_, _-_, _≤_, _<_}
+use mathlib.Core.List.{List}
+use Prim.Native.Nat.{ℕ, suc, _+_, _-_, _≤_, _<_}
 use native.Mathlib.Numerals.{add-one}
 use native.Mathlib.Omega.{arith}
-use lib.ListN.{length, getD}
-use Rattle.rule.specs.Sets.{Is, _=?_, _<?_, In, at}
+use lib.ListN.{getD}
+use Rattle.rule.specs.Sets.{_=?_, In, at}
 use Rattle.rule.specs.Legal.{Design, k}
 use Rattle.rule.specs.Forests.{limit}
 use Rattle.rule.proofs.Tests.{is-false, lt-of, lt-is}

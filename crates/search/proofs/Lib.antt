@@ -5,3 +5,4 @@ pub mod Numbers
 pub mod Listing
 pub mod Marking
 pub mod MarkedList
+pub mod AtEnd

@@ -2,16 +2,15 @@
 -- The lowest bit has the smallest number.
 -- Assumes nothing.
 use mathlib.Core.Path.{_≡_, refl, sym, ap, _∙_, subst}
-use mathlib.Core.Logic.{_≢_}
 use mathlib.Core.List.{List, [], _∷_, _++_, append-nil}
-use Prim.Native.Nat.{ℕ, suc, _+_, _≤_, _<_}
+use Prim.Native.Nat.{ℕ, _+_, _<_}
 use native.Mathlib.Omega.{arith}
 use lib.ListN.{length, set, length-append}
 use lib.Seq.{append-snoc}
-use Rattle.rule.specs.Sets.{Is, Set, In, _without_, count, numbers}
+use Rattle.rule.specs.Sets.{Set, _without_, numbers}
 use Rattle.rule.proofs.Tests.{by-le}
 use Rattle.rule.proofs.Counting.{length-numbers}
-use Rattle.words.specs.Bits.{bit, Lowest, Without}
+use Rattle.words.specs.Bits.{Lowest, Without}
 use Rattle.reaching.specs.Filled.{Filled}
 use Rattle.reaching.specs.Words.{Carries, Coming}
 use Rattle.search.specs.Marks.{Written}

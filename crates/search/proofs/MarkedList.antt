@@ -1,19 +1,19 @@
 -- The marked numbers listed word by word: those of the words passed stand in the list, and the numbers of the next word are all larger.
 -- Assumes nothing.
 use mathlib.Core.Path.{_≡_, refl, sym, ap, _∙_, subst}
-use mathlib.Core.Logic.{⊎-elim, _≢_}
-use mathlib.Core.List.{List, [], _++_}
-use Prim.Native.Nat.{ℕ, suc, _+_, _*_, _/_, _%_, _≤_, _<_}
+use mathlib.Core.Logic.{⊎-elim}
+use mathlib.Core.List.{List, _++_}
+use Prim.Native.Nat.{ℕ, _+_, _*_, _/_, _%_, _≤_}
 use native.Mathlib.Omega.{arith}
 use lib.ListN.{length, getD, length-append}
-use Rattle.rule.specs.Sets.{Is, _and_, _or_, _=?_, _<?_, Set, In, below, count, numbers}
-use Rattle.rule.proofs.Tests.{cases, same-test, and-make, and-l, and-r, or-l, or-r, or-elim, eq-of, eq-is, by-eq, by-le, below-in, below-lt, below-make}
+use Rattle.rule.specs.Sets.{Is, _and_, _or_, _=?_, Set, below, count, numbers}
+use Rattle.rule.proofs.Tests.{same-test, and-make, and-l, and-r, or-l, or-r, or-elim, eq-of, eq-is, by-le, below-in, below-lt, below-make}
 use Rattle.rule.proofs.Counting.{count-mono, numbers-eq, length-numbers}
 use Rattle.words.specs.Bits.{bit}
 use Rattle.reaching.specs.Filled.{Filled}
 use Rattle.reaching.specs.Words.{Carries, Coming}
 use Rattle.search.specs.Marks.{Written, isMarked, Markings}
-use Rattle.reaching.proofs.Filled.{filled-none, filled-length, filled-then}
+use Rattle.reaching.proofs.Filled.{filled-none, filled-then}
 use Rattle.reaching.proofs.Numbers.{numbers-none}
 use Rattle.search.proofs.Numbers.{numbers-split}
 

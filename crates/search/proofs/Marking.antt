@@ -1,7 +1,7 @@
 -- Edges marked in words, one after another: each is marked once its place is passed, and nothing else is. At the end the marked numbers are the
 -- edges seen, but for the new one.
 -- Assumes nothing.
-use mathlib.Core.Path.{_≡_, refl, sym, ap, ap₂, _∙_, subst}
+use mathlib.Core.Path.{_≡_, sym, ap, ap₂, _∙_, subst}
 use mathlib.Core.Logic.{⊎-elim, _≢_}
 use mathlib.Core.Bool.{Bool, false≢true}
 use mathlib.Core.List.{List}
@@ -17,7 +17,6 @@ use Rattle.theory.specs.Search.{edgeAt}
 use Rattle.theory.proofs.Search.Image.{seen-count}
 use Rattle.words.specs.Bits.{bit}
 use Rattle.words.proofs.Bits.{bit-zero, bit-or, bit-power}
-use Rattle.reaching.specs.Filled.{Filled}
 use Rattle.search.specs.Marks.{Written, isMarked, Marked, Markings}
 use Rattle.search.specs.Ends.{Waits, Listed}
 use Rattle.reaching.proofs.Bits.{zeros-at, or-none}

@@ -1,13 +1,12 @@
 -- More laws of `numbers`: of a set with one whose numbers are all larger, and of a set and its smallest number. (The first laws: reaching's Numbers.antt.)
 -- Assumes nothing.
 use mathlib.Core.Path.{_≡_, refl, sym, ap, ap₂, _∙_, subst}
-use mathlib.Core.Logic.{_⊎_, ⊎-elim, _≢_}
-use mathlib.Core.Bool.{Bool, true, false, false≢true}
+use mathlib.Core.Logic.{⊎-elim}
 use mathlib.Core.List.{List, [], _∷_, _++_, append-assoc, append-nil}
 use Prim.Native.Nat.{ℕ, zero, suc, _≤_, _<_}
 use native.Mathlib.Omega.{arith}
-use Rattle.rule.specs.Sets.{Is, _or_, _=?_, Set, In, _without_, only-if, numbers}
-use Rattle.rule.proofs.Tests.{cases, same-test, is-false, or-l, or-r, or-elim, eq-of, eq-is, by-eq, without-old, without-ne, without-make, in-one, in-last}
+use Rattle.rule.specs.Sets.{Is, _or_, _=?_, Set, In, _without_, numbers}
+use Rattle.rule.proofs.Tests.{cases, same-test, or-l, or-r, or-elim, eq-of, eq-is, by-eq, without-old, without-ne, without-make, in-one, in-last}
 use Rattle.rule.proofs.Counting.{numbers-eq}
 use Rattle.reaching.proofs.Numbers.{numbers-in, numbers-out, numbers-none}
 

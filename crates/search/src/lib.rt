@@ -203,13 +203,13 @@ fn mark(n: usize, queue: &[u16; 379], marks: &mut [u64; 9])
         × ((y : ℕ) → ¬ (Is (isMarked (now marks) y))) ⌝ }
     ensures { λ _. ⌜ Marked (now (queue .entry)) n (now (marks .exit)) ⌝ }
 {
-    let mut q: usize = 1;
-    while q < n {
-        let e = queue[q];
+    let mut p: usize = 1;
+    while p < n {
+        let e = queue[p];
         let i = (e / 64) as usize;
         let bit = words::one((e % 64) as usize);
         marks[i] = marks[i] | bit;
-        q = q + 1;
+        p = p + 1;
     }
 }
 

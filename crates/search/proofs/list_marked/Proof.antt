@@ -1,9 +1,8 @@
 -- `search::list_marked`: the numbers of the words passed stand in the list.
 use borrow.Author.Needs.{needs}
-use mathlib.Core.Path.{_≡_, sym, ap, _∙_, subst}
-use Prim.Native.Nat.{ℕ, _+_, _-_, _*_, _^_, _≤_, _<_}
+use Prim.Native.Nat.{_-_, _≤_}
 use native.Mathlib.Omega.{arith}
-use lib.ListN.{length, getD}
+use lib.ListN.{length}
 use Rattle.rule.specs.Sets.{numbers}
 use Rattle.search.specs.Marks.{Written, Markings}
 use Rattle.reaching.proofs.Filled.{filled-length}
