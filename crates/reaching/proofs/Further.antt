@@ -28,7 +28,7 @@ use Rattle.tables.specs.Tables.{word, slot, filled}
 use Rattle.reaching.specs.Words.{Came}
 use Rattle.reaching.specs.Setting.{Setting, Holds, State}
 use Rattle.reaching.specs.Trying.{Further}
-use Rattle.reaching.proofs.Filled.{filled-length, filled-front}
+use Rattle.reaching.proofs.Laid.{laid-length, laid-front}
 use Rattle.reaching.proofs.Bits.{or-none}
 use Rattle.reaching.proofs.Bound.{few-wait}
 use Rattle.reaching.proofs.Paths.{on-path}
@@ -88,13 +88,13 @@ module _ {d : Design} {forest : ℕ → ℕ} {root way who edge sizes : List ℕ
       record {
         queued =
             ap (λ (j : ℕ). take j queue′) next-size
-            ∙ filled-front (c .waits)
+            ∙ laid-front (c .waits)
             ∙ ap (λ (l : List ℕ). l ++ news) (state .holds .queued);
         reached =
             ap (λ (j : ℕ). take j from′) (next-size ∙ ap (λ (j : ℕ). size w + j) (sym (length-replicate (length news) place)))
-            ∙ filled-front (c .reached)
+            ∙ laid-front (c .reached)
             ∙ ap (λ (l : List ℕ). l ++ replicate (length news) place) (state .holds .reached);
-        places = (filled-length (c .waits) ∙ state .holds .places .0, filled-length (c .reached) ∙ state .holds .places .1);
+        places = (laid-length (c .waits) ∙ state .holds .places .0, laid-length (c .reached) ∙ state .holds .places .1);
       }
 
   module _ (hx : In (d .m) x) (hf : In 6 f) (spanned : Is (spans d (inForest forest f) x)) where

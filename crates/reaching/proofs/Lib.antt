@@ -1,4 +1,4 @@
-pub mod Filled
+pub mod Laid
 pub mod Held
 pub mod Numbers
 pub mod Waited

@@ -1,4 +1,4 @@
-pub mod Filled
+pub mod Laid
 pub mod Words
 pub mod Setting
 pub mod Trying

@@ -5,7 +5,7 @@ use Prim.Native.Nat.{ℕ, _+_, _≤_, _<_}
 use lib.ListN.{length, getD, replicate}
 use Rattle.rule.specs.Sets.{Is, Set, In, count}
 use Rattle.words.specs.Bits.{bit}
-use Rattle.reaching.specs.Filled.{Filled}
+use Rattle.reaching.specs.Laid.{Laid}
 
 -- bit j of the word, of 64, stands for the number `of j`: those of 1 to m that are in s are the numbers of its bits, each once
 pub record Carries (of : ℕ → ℕ) (word : ℕ) (s : Set) (m : ℕ) : Type 0 where
@@ -26,6 +26,6 @@ pub record Coming (of : ℕ → ℕ) (word size places : ℕ) : Type 0 where
 
 -- the edges of a list wait behind the first `size`, each of them reached from a place
 pub record Came (list : List ℕ) (size place : ℕ) (queue from queue′ from′ : List ℕ) (size′ : ℕ) : Type 0 where
-  pub waits : Filled queue size list queue′
-  pub reached : Filled from size (replicate (length list) place) from′
+  pub waits : Laid queue size list queue′
+  pub reached : Laid from size (replicate (length list) place) from′
   pub counts : size′ ≡ size + length list

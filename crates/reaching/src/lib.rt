@@ -6,7 +6,7 @@ ghost use lib.ListN.{length};
 ghost use Rattle.rule.specs.Sets.{In, numbers};
 ghost use Rattle.rule.specs.Forests.{limit};
 ghost use Rattle.theory.specs.Search.{tryForest, tryForests};
-ghost use Rattle.reaching.specs.Filled.{TakesIn};
+ghost use Rattle.reaching.specs.Laid.{TakesIn};
 ghost use Rattle.reaching.specs.Words.{Coming, standing, Came};
 ghost use Rattle.reaching.specs.Trying.{Tells, Trying, After};
 

@@ -11,7 +11,7 @@ use Rattle.reaching.proofs.Held.{held-few}
 use Rattle.search.specs.declared.Outcome.the-variants.{Found, Stuck}
 use Rattle.search.specs.Given.{Given}
 use Rattle.search.specs.Answers.{Searched}
-use Rattle.search.specs.Ends.{Led, Waits}
+use Rattle.search.specs.Ends.{Led, Queued}
 
 module _ {a k : ℕ} {ones others colours forests root way edge queue from : List ℕ} (g : Given a k ones others colours forests root way edge) where
   pub ended-there : {p f : ℕ} (s : Searched g queue from (Found p f)) → Ended (g .d) (g .forest) (g .d .m) p f (s .waiting)
@@ -25,8 +25,8 @@ module _ {a k : ℕ} {ones others colours forests root way edge queue from : Lis
   not-ended s =
       subst (Stages (g .d) (g .forest) (g .d .m) (g .d .m)) (s .is) (search-ends (g .d) (g .forest) (g .d .m) (omega (arith, g .setting .edges .low)))
 
-  abbrev pub waiting : {n : ℕ} → Searched g queue from (Stuck n) → Waits n queue
-  waiting s =
+  abbrev pub queued : {n : ℕ} → Searched g queue from (Stuck n) → Queued n queue
+  queued s =
       record {
         d = g .d;
         forest = g .forest;

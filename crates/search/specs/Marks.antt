@@ -5,11 +5,11 @@ use Prim.Native.Nat.{ℕ, _+_, _/_, _%_, _≤_, _<_}
 use lib.ListN.{length, getD}
 use Rattle.rule.specs.Sets.{Is, Set, In, count}
 use Rattle.words.specs.Bits.{bit}
-use Rattle.reaching.specs.Filled.{Filled}
+use Rattle.reaching.specs.Laid.{Laid}
 
 -- the list is written behind the first `size` places
 pub record Written (before : List ℕ) (size : ℕ) (list after : List ℕ) (size′ : ℕ) : Type 0 where
-  pub filled : Filled before size list after
+  pub laid : Laid before size list after
   pub counts : size′ ≡ size + length list
 
 abbrev pub isMarked : List ℕ → Set

@@ -7,7 +7,7 @@ ghost use Rattle.rule.specs.Sets.{Is, _=?_, numbers};
 ghost use Rattle.reaching.specs.Words.{Coming};
 ghost use Rattle.search.specs.Given.{Given, Sought};
 ghost use Rattle.search.specs.Answers.{Turned, Searched};
-ghost use Rattle.search.specs.Ends.{Led, Traced, Waits, Listed};
+ghost use Rattle.search.specs.Ends.{Led, Traced, Queued, Listed};
 ghost use Rattle.search.specs.Marks.{Written, isMarked, Marked, Markings};
 use reaching::Tried;
 
@@ -247,8 +247,8 @@ fn list_marked(marks: &[u64; 9], list: &mut [u16]) -> usize
 
 // The circuit: the edges that wait, but for the new one, in the first places of the list, smallest first, and how many they are.
 pub fn circuit(n: usize, queue: &[u16; 379], list: &mut [u16]) -> usize
-    requires { ⌜ (378 ≤ length (now list)) × Waits n (now queue) ⌝ }
-    ensures { λ r. ⌜ ((t : Waits n (now (queue .entry))) → Listed (t .w) (t .d .m) n (now (list .entry)) (now (list .exit)) r) ⌝ }
+    requires { ⌜ (378 ≤ length (now list)) × Queued n (now queue) ⌝ }
+    ensures { λ r. ⌜ ((t : Queued n (now (queue .entry))) → Listed (t .w) (t .d .m) n (now (list .entry)) (now (list .exit)) r) ⌝ }
 {
     let mut marks = [0u64; 9];
     mark(n, queue, &mut marks);

@@ -5,7 +5,7 @@ use Prim.Native.Nat.{_≤_, _<_}
 use native.Mathlib.Omega.{arith}
 use lib.ListN.{length}
 use Rattle.reaching.specs.Words.{standing, Coming}
-use Rattle.reaching.proofs.Filled.{filled-length}
+use Rattle.reaching.proofs.Laid.{laid-length}
 use Rattle.reaching.proofs.Coming.{Reaching, reaching-begins, reaching-room, reaching-next, reaching-ends}
 use Rattle.reaching.proofs.reach.Statement.{statement}
 use Rattle.reaching.proofs.reach.Tie as tie
@@ -34,7 +34,7 @@ so-far c =
     let r = c .before .before .loop .inv (c .before .before .before .pre .3) in (
       reaching-room r (c .lowest .ensures),
       omega (arith, r .came .counts),
-      filled-length (r .came .waits) ∙ c .before .before .before .pre .1,
+      laid-length (r .came .waits) ∙ c .before .before .before .pre .1,
     )
 
 add-i : tie.Need-add-i Inv-loop μ-loop
