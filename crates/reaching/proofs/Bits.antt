@@ -1,5 +1,5 @@
--- Going through the bits of a word, one after another. A word that carries a set carries it without the number of a bit when that bit is
--- taken away; an empty word carries nothing; and the lowest bit has the smallest number where larger bits have larger ones.
+-- Going through the bits of a word, one after another: a word that carries a set carries it without the number of a bit when that bit is taken
+-- away, and a word that is 0 carries nothing. This serves every loop over bits. And words that are all 0.
 -- Assumes nothing.
 use mathlib.Core.Path.{_≡_, refl, sym, ap, _∙_, subst}
 use mathlib.Core.Logic.{⊎-elim, _≢_}

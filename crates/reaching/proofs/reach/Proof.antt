@@ -9,8 +9,6 @@ use Rattle.reaching.proofs.Laid.{laid-length}
 use Rattle.reaching.proofs.Coming.{Reaching, reaching-begins, reaching-room, reaching-next, reaching-ends}
 use Rattle.reaching.proofs.reach.Statement.{statement}
 use Rattle.reaching.proofs.reach.Tie as tie
-use Rattle.reaching.proofs.reach.Reads as reads
-use Rattle.reaching.proofs.reach.Lts as lts
 
 abbrev Inv-loop : tie.InvT-loop
 Inv-loop base word edge queue₀ from₀ size place left₀ n₀ queue from left n =
