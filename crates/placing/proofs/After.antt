@@ -1,12 +1,12 @@
 -- The book after an edge has been added: its design is the design of the book before with the offered edge, and it is sound where its
 -- forests are an arrangement.
 -- Assumes nothing.
-use mathlib.Core.Path.{_≡_, refl, sym, ap, _∙_, subst, subst₂}
+use mathlib.Core.Path.{_≡_, sym, ap, _∙_, subst, subst₂}
 use mathlib.Core.Logic.{_≢_}
-use Prim.Native.Nat.{ℕ, zero, suc, _≤_, _<_}
+use Prim.Native.Nat.{ℕ, _<_}
 use native.Mathlib.Omega.{arith}
 use Rattle.rule.specs.declared.Book.{Book}
-use Rattle.rule.specs.Sets.{Is, _=?_, Set, In, put, at}
+use Rattle.rule.specs.Sets.{_=?_, Set, In, put, at}
 use Rattle.rule.specs.Legal.{Design}
 use Rattle.rule.specs.Forests.{Arranged}
 use Rattle.rule.specs.Books.{designOf, forestOf, offered, plus, next, ProfileRange, BodiesRange, ColourRange, Sound}

@@ -6,14 +6,14 @@
 use mathlib.Core.Path.{_≡_, refl, sym, ap, _∙_, subst}
 use mathlib.Core.Logic.{_↔_, _≢_}
 use mathlib.Core.List.{List, [], _∷_}
-use Prim.Native.Nat.{ℕ, suc, _≤_, _<_}
+use Prim.Native.Nat.{ℕ, suc, _≤_}
 use native.Mathlib.Omega.{arith}
 use lib.ListN.{length}
 use Rattle.rule.specs.declared.Book.{Book}
 use Rattle.rule.specs.Sets.{isnt, _=?_, Set, In, _without_, numbers}
 use Rattle.rule.specs.Legal.{Design, Ends, Keeps, Implies, Circuit}
 use Rattle.rule.specs.Forests.{Arranged, moved}
-use Rattle.rule.specs.Books.{designOf, forestOf, keptOf, offered, plus, next, Sound}
+use Rattle.rule.specs.Books.{designOf, forestOf, offered, plus, next, Sound}
 use Rattle.rule.specs.Calls.{KeepsIt, ImpliesIt, Filled}
 use Rattle.rule.proofs.Counting.{count-eq}
 use Rattle.theory.specs.Exchange.{Each, Distinct, end, Free, shifted}

@@ -4,20 +4,16 @@
 -- since the offered edge stands in no forest.
 -- Assumes nothing.
 use mathlib.Core.Path.{_≡_, refl, sym, ap, _∙_, subst}
-use mathlib.Core.Logic.{_≢_}
-use mathlib.Core.Bool.{cond}
-use mathlib.Core.List.{List, [], _∷_, _++_, reverse, reverse-append, reverse-reverse}
+use mathlib.Core.List.{List, [], _∷_, reverse, reverse-append, reverse-reverse}
 use Prim.Native.Nat.{ℕ, zero, suc, _+_, _≤_, _<_}
 use native.Mathlib.Omega.{arith}
-use lib.ListN.{length, getD, take, drop, length-reverse}
+use lib.ListN.{length, getD, take, drop, length-reverse, length-append}
 use lib.Seq.{take-suc, take-at}
 use Rattle.rule.specs.declared.Book.{Book}
-use Rattle.rule.specs.Sets.{_=?_, In, at}
-use Rattle.rule.specs.Legal.{Design, k}
-use Rattle.rule.specs.Forests.{limit}
+use Rattle.rule.specs.Sets.{In, at}
+use Rattle.rule.specs.Legal.{Design}
 use Rattle.rule.specs.Books.{designOf, forestOf, offered, plus, next}
-use Rattle.rule.proofs.Tests.{in-split}
-use Rattle.theory.specs.Search.{Waiting, edgeAt, search, pathTo}
+use Rattle.theory.specs.Search.{edgeAt, search, pathTo}
 use Rattle.theory.specs.Search.Result.{found, going}
 use Rattle.theory.proofs.Laws.Plus.{plus-one, plus-other, plus-red, new-one, new-other, new-red}
 use Rattle.theory.proofs.Legal.Kept.{limit-most}
@@ -28,12 +24,12 @@ use Rattle.theory.proofs.Search.Reached.{Reached}
 use Rattle.theory.proofs.Search.Stages.{Ended, Turned, search-ends}
 use Rattle.tables.proofs.Longer.{tabled-longer}
 use Rattle.search.specs.declared.Outcome.{Outcome}
-use Rattle.search.specs.Filled.{Filled as Placed}
-use Rattle.search.specs.Setting.{Setting, Edge, Given, Sought, Holds}
-use Rattle.search.specs.Answers.{Comes, Answers, Searched}
-use Rattle.search.specs.Ends.{Led, Traced, Waits, Listed}
-use Rattle.search.proofs.Filled.{filled-length}
-use Rattle.search.proofs.Held.{held-few}
+use Rattle.reaching.specs.Setting.{Setting, Holds}
+use Rattle.search.specs.Given.{Edge, Given, Sought}
+use Rattle.reaching.specs.Trying.{Comes}
+use Rattle.search.specs.Answers.{Answers, Searched}
+use Rattle.search.specs.Ends.{Led, Traced, Queued, Listed}
+use Rattle.reaching.proofs.Held.{held-few}
 use Rattle.moving.specs.Moves.{backward}
 use Rattle.placing.specs.Seek.{forestsFor, Seekable, Ends, Fails}
 use Rattle.placing.proofs.Says.{offered-ends, offered-arranged, offered-last, offered-unplaced, free}
@@ -50,12 +46,6 @@ backward-reverse path (suc n) h =
 
 pub backward-front : (path l : List ℕ) (n : ℕ) → n ≤ length path → take n path ≡ reverse l → backward path n ≡ l
 backward-front path l n h q = backward-reverse path n h ∙ ap reverse q ∙ reverse-reverse l
-
--- a list written into the first places
-written-first : {old list now : List ℕ} → Placed old 0 list now → now ≡ list ++ drop (length list) old
-written-first {old} {list} {now} w =
-    let none : 0 + length list ≡ length list = omega arith in
-    w .written ∙ ap (λ (z : ℕ). list ++ drop z old) none
 
 module _ (B : Book) (u v colour : ℕ) {root way edge : List ℕ} (s : Seekable B u v root way edge) where
   abbrev d : Design
@@ -154,9 +144,9 @@ module _ (B : Book) (u v colour : ℕ) {root way edge : List ℕ} (s : Seekable 
     ends-there path path′ n long t =
         let back = reverse (pathTo (r .waiting) p) in
         let as-many : length back ≡ n = length-reverse (pathTo (r .waiting) p) ∙ sym (t .counts) in
-        let room : n ≤ 379 = omega (arith, t .backwards .room, long) in
-        let long′ : length path′ ≡ 379 = filled-length (t .backwards) ∙ long in
-        let front : take n path′ ≡ back = ap (take n) (written-first (t .backwards)) ∙ take-at back (drop (length back) path) n as-many in (
+        let long′ : length path′ ≡ 379 = t .as-long ∙ long in
+        let room : n ≤ 379 = omega (arith, as-many, long′, ap length (t .backwards), length-append back (drop (length back) path)) in
+        let front : take n path′ ≡ back = ap (take n) (t .backwards) ∙ take-at back (drop (length back) path) n as-many in (
           record {
             waiting = r .waiting;
             place = p;
@@ -178,7 +168,7 @@ module _ (B : Book) (u v colour : ℕ) {root way edge : List ℕ} (s : Seekable 
         (offered-arranged B u v colour (s .sound) (s .one) (s .other)) (next B) last-edge
         (offered-unplaced B u v colour (s .sound) (s .one) (s .other)) (r .waiting) (r .is)
 
-    pub waits : Waits n queue
+    pub waits : Queued n queue
     unfolding plus designOf
     waits =
         record {
@@ -195,6 +185,6 @@ module _ (B : Book) (u v colour : ℕ) {root way edge : List ℕ} (s : Seekable 
     pub fails-there : (list listed : List ℕ) (len : ℕ) → Listed (waits .w) (waits .d .m) n list listed len → Fails B u v colour list listed len × (len < 65536)
     unfolding waits plus designOf
     fails-there list listed len l = (
-      record { waiting = r .waiting; is-stuck = r .is; fills = written-first (l .in-order); counts = l .counts },
+      record { waiting = r .waiting; is-stuck = r .is; fills = l .in-order; counts = l .counts },
       omega (arith, l .one-fewer, waits .few),
     )

@@ -4,17 +4,17 @@
 use mathlib.Core.Path.{_≡_, refl, sym, ap, ap₂, _∙_, subst, subst₂}
 use mathlib.Core.Logic.{_≢_}
 use mathlib.Core.List.{List, [], _∷_}
-use Prim.Native.Nat.{ℕ, suc, _+_, _-_, _≤_, _<_}
+use Prim.Native.Nat.{ℕ, suc, _+_, _-_, _<_}
 use native.Mathlib.Omega.{arith}
-use lib.ListN.{length, getD, set, drop, length-set, length-drop}
+use lib.ListN.{length, drop, length-set, length-drop}
 use lib.Seq.{ext-getD, getD-drop}
 use Rattle.rule.specs.declared.Book.{Book}
 use Rattle.rule.specs.declared.Answer.the-variants.{Kept, Implied}
-use Rattle.rule.specs.Sets.{In, put, at}
-use Rattle.rule.specs.Legal.{Design, k}
+use Rattle.rule.specs.Sets.{In, at}
+use Rattle.rule.specs.Legal.{Design}
 use Rattle.rule.specs.Forests.{Arranged}
 use Rattle.rule.specs.Books.{designOf, forestOf, offered, plus, next, Sound}
-use Rattle.rule.specs.Calls.{Adds, KeepsIt, ImpliesIt, Offer}
+use Rattle.rule.specs.Calls.{Adds, KeepsIt, ImpliesIt}
 use Rattle.rule.proofs.Tests.{put-other}
 use Rattle.rule.proofs.Places.{at-suc, at-set}
 use Rattle.theory.specs.Exchange.{Each, end, Free, shifted, freed}
@@ -25,7 +25,7 @@ use Rattle.tables.specs.Tables.{Tabled}
 use Rattle.tables.proofs.Longer.{tabled-longer}
 use Rattle.moving.specs.Moves.{backward, Drawn, Replanting, Replanted}
 use Rattle.placing.specs.Seek.{forestsFor, Seekable, Ends, Fails}
-use Rattle.placing.specs.Take.{Full, Entered, Ready, Takeable, Takes}
+use Rattle.placing.specs.Take.{Full, Entered, Takeable, Takes}
 use Rattle.placing.proofs.After.{one-after, other-after, design-after}
 use Rattle.placing.proofs.Says.{offered-ends, offered-arranged, start, free, old-path, found-says, stuck-says}
 

@@ -4,12 +4,12 @@
 use mathlib.Core.Path.{_≡_, refl, sym, ap, ap₂, _∙_, subst}
 use mathlib.Core.Logic.{_≢_}
 use mathlib.Core.Bool.{Bool, cond}
-use mathlib.Core.List.{List, _∷_, []}
-use Prim.Native.Nat.{ℕ, zero, suc, _+_, _-_, _≤_, _<_}
+use mathlib.Core.List.{List}
+use Prim.Native.Nat.{ℕ, suc, _+_, _-_, _≤_, _<_}
 use native.Mathlib.Numerals.{add-one}
 use native.Mathlib.Omega.{arith}
-use lib.ListN.{length, getD}
-use Rattle.rule.specs.Sets.{Is, _=?_, _<?_, In, at}
+use lib.ListN.{getD}
+use Rattle.rule.specs.Sets.{_=?_, In, at}
 use Rattle.rule.specs.Legal.{Design, k}
 use Rattle.rule.specs.Forests.{limit}
 use Rattle.rule.proofs.Tests.{is-false, lt-of, lt-is}
@@ -17,12 +17,13 @@ use Rattle.theory.specs.Search.{Waiting, edgeAt, Result, andThen, pick, tryFore
 use Rattle.theory.specs.Search.Result.{found, going}
 use Rattle.theory.proofs.Search.Reached.{size}
 use Rattle.theory.proofs.Search.Image.{size-most}
-use Rattle.search.specs.declared.Outcome.{Outcome}
+use Rattle.reaching.specs.declared.Tried.the-variants.{Free, Waits}
 use Rattle.search.specs.declared.Outcome.the-variants.{Found, Stuck}
-use Rattle.search.specs.Setting.{Setting, Edge, Given, Holds, State}
-use Rattle.search.specs.Answers.{Comes, Answers, Turned, Searched, Trying, After}
-use Rattle.search.proofs.Held.{held-edge, held-few}
-use Rattle.search.proofs.AllForests.{stays}
+use Rattle.reaching.specs.Trying.{Tells, Trying, After}
+use Rattle.search.specs.Given.{Edge, Given}
+use Rattle.search.specs.Answers.{Turned, Searched}
+use Rattle.reaching.proofs.Held.{held-edge, held-few}
+use Rattle.reaching.proofs.AllForests.{stays}
 
 -- the forests that an edge may stand in
 pub limit-is : {d : Design} {forest : ℕ → ℕ} {e u v colour own a k′ : ℕ} → Edge d forest e u v colour own → d .a ≡ a → k d ≡ k′
@@ -116,10 +117,13 @@ module _ {a k′ : ℕ} {ones others colours forests root way edge : List ℕ} (
         tried : before (q + 1) ≡ tryForests (g .d) (g .forest) q x last (s .waiting)
         tried = this-turn ∙ ap (λ (j : ℕ). tryForests (g .d) (g .forest) q x j (s .waiting)) limited
 
-        pub turn-answers : (queue′ from′ seen′ : List ℕ) (r : Outcome)
-            → Answers (After (has-turn e) queue′ from′ seen′) (tryForests (g .d) (g .forest) q x last (s .waiting)) r → Turned g queue′ from′ seen′ (q + 1) r
-        turn-answers queue′ from′ seen′ (Found p i) b = record { waiting = b .waiting; is = tried ∙ b .is; holds = b .holds .state }
-        turn-answers queue′ from′ seen′ (Stuck m) b = record { waiting = b .waiting; is = tried ∙ b .is; holds = (b .holds .0, b .holds .1 .state) }
+        pub turn-ends : {queue′ from′ seen′ : List ℕ} {f : ℕ}
+            → Tells (After (has-turn e) queue′ from′ seen′) q (tryForests (g .d) (g .forest) q x last (s .waiting)) (Free f) → Turned g queue′ from′ seen′ (q + 1) (Found q f)
+        turn-ends b = record { waiting = b .waiting; is = tried ∙ b .is; holds = b .holds .state }
+
+        pub turn-goes : {queue′ from′ seen′ : List ℕ} {m : ℕ}
+            → Tells (After (has-turn e) queue′ from′ seen′) q (tryForests (g .d) (g .forest) q x last (s .waiting)) (Waits m) → Turned g queue′ from′ seen′ (q + 1) (Stuck m)
+        turn-goes b = record { waiting = b .waiting; is = tried ∙ b .is; holds = (b .holds .0, b .holds .1 .state) }
 
       -- behind the new edge wait earlier ones
       earlier : 1 ≤ q → x ≢ g .d .m

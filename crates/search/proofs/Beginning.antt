@@ -3,9 +3,9 @@
 use mathlib.Core.Path.{_≡_, refl, sym, ap, _∙_, subst}
 use mathlib.Core.Bool.{cond}
 use mathlib.Core.List.{List, [], _∷_}
-use Prim.Native.Nat.{ℕ, zero, suc, _-_, _<_}
+use Prim.Native.Nat.{ℕ, _-_, _<_}
 use native.Mathlib.Omega.{arith}
-use lib.ListN.{length, getD, set, replicate, length-set}
+use lib.ListN.{length, set, replicate, length-set}
 use lib.Seq.{take-suc-set}
 use Rattle.rule.specs.Sets.{_=?_, In}
 use Rattle.rule.specs.Forests.{limit}
@@ -15,12 +15,14 @@ use Rattle.theory.proofs.Search.Reached.{begin-reached}
 use Rattle.words.specs.Bits.{bit}
 use Rattle.words.proofs.Bits.{bit-zero}
 use Rattle.tables.specs.Tables.{slot, filled}
-use Rattle.search.specs.declared.Outcome.{Outcome}
-use Rattle.search.specs.declared.Outcome.the-variants.{Stuck}
-use Rattle.search.specs.Setting.{Edge, Sought}
-use Rattle.search.specs.Answers.{Answers, Turned, Trying, After}
-use Rattle.search.proofs.Bits.{zeros-at}
-use Rattle.search.proofs.AllTurns.{limit-is, has-turn, turn-answers}
+use Rattle.reaching.specs.declared.Tried.{Tried}
+use Rattle.reaching.specs.declared.Tried.the-variants.{Free, Waits}
+use Rattle.reaching.specs.Trying.{Tells, Trying, After}
+use Rattle.search.specs.declared.Outcome.the-variants.{Found, Stuck}
+use Rattle.search.specs.Given.{Edge, Sought}
+use Rattle.search.specs.Answers.{Turned}
+use Rattle.reaching.proofs.Bits.{zeros-at}
+use Rattle.search.proofs.AllTurns.{limit-is, has-turn, turn-ends, turn-goes}
 
 module _ {a k u v colour number : ℕ} {ones others colours forests root way edge : List ℕ} (s : Sought a k u v colour number ones others colours forests root way edge) where
   -- the new edge is in no slot
@@ -65,7 +67,7 @@ module _ {a k u v colour number : ℕ} {ones others colours forests root way edg
     limited : limit (s .given .d) (edgeAt (alone .waiting) 0) ≡ last
     limited = limit-is new-first (s .given .for-red) (s .given .for-black) ∙ sym is-last
 
-    abbrev Tries : Type 0
+    abbrev pub Tries : Type 0
     Tries = Trying u v 0 1 root way edge (set queue 0 number) (set from 0 0) (replicate 6 0)
 
     abbrev new-tries : Tries
@@ -74,9 +76,14 @@ module _ {a k u v colour number : ℕ} {ones others colours forests root way edg
     pub first-asks : (t : Tries) × ((limit (t .d) (t .x) ≡ last) × (t .forest (t .x) ≡ 0))
     first-asks = (new-tries, (limited, new-first .stands))
 
-    pub first-turn : (queue′ from′ seen′ : List ℕ) (r : Outcome)
-        → ((t : Tries) → limit (t .d) (t .x) ≡ last → t .forest (t .x) ≡ 0
-        → Answers (After t queue′ from′ seen′) (tryForests (t .d) (t .forest) 0 (t .x) last (t .w)) r)
-        → Turned (s .given) queue′ from′ seen′ 1 r
-    first-turn queue′ from′ seen′ r answers =
-        turn-answers (s .given) 0 alone (omega arith) new-first limited queue′ from′ seen′ r (answers new-tries limited (new-first .stands))
+    -- what trying its forests tells of any design
+    abbrev pub FirstTold : (queue′ from′ seen′ : List ℕ) → Tried → Type 0
+    FirstTold queue′ from′ seen′ r =
+        (t : Tries) → limit (t .d) (t .x) ≡ last → t .forest (t .x) ≡ 0
+        → Tells (After t queue′ from′ seen′) 0 (tryForests (t .d) (t .forest) 0 (t .x) last (t .w)) r
+
+    pub first-ends : (queue′ from′ seen′ : List ℕ) (f : ℕ) → FirstTold queue′ from′ seen′ (Free f) → Turned (s .given) queue′ from′ seen′ 1 (Found 0 f)
+    first-ends queue′ from′ seen′ f told = turn-ends (s .given) 0 alone (omega arith) new-first limited (told new-tries limited (new-first .stands))
+
+    pub first-goes : (queue′ from′ seen′ : List ℕ) (n : ℕ) → FirstTold queue′ from′ seen′ (Waits n) → Turned (s .given) queue′ from′ seen′ 1 (Stuck n)
+    first-goes queue′ from′ seen′ n told = turn-goes (s .given) 0 alone (omega arith) new-first limited (told new-tries limited (new-first .stands))

@@ -1,16 +1,17 @@
 -- The way back from a place to the new edge: what is written so far is the end of the path, backwards, and the model's trail from where the loop
 -- stands, in front of that, is the whole path (`Leading`).
 -- Assumes nothing.
-use mathlib.Core.Path.{_≡_, refl, sym, ap, ap₂, _∙_, subst, subst₂}
+use mathlib.Core.Path.{_≡_, refl, sym, ap, _∙_, subst, subst₂}
 use mathlib.Core.List.{List, [], _∷_, _++_, reverse, reverse-cons}
 use Prim.Native.Nat.{ℕ, zero, suc, _+_, _-_, _≤_, _<_}
 use native.Mathlib.Omega.{arith}
 use lib.ListN.{length, getD, set, length-reverse}
+use Rattle.rule.specs.Calls.{Filled}
 use Rattle.theory.specs.Search.{Waiting, edgeAt, fromAt, trail, pathTo}
-use Rattle.search.specs.Filled.{Filled}
+use Rattle.reaching.specs.Laid.{Laid}
 use Rattle.search.specs.Ends.{Led, Traced}
-use Rattle.search.proofs.Filled.{filled-none, filled-more}
-use Rattle.search.proofs.Held.{held-edge, held-from, held-few}
+use Rattle.reaching.proofs.Laid.{laid-none, laid-more, laid-length, laid-first}
+use Rattle.reaching.proofs.Held.{held-edge, held-from, held-few}
 
 trail-step : (w : Waiting) (steps q : ℕ) (l : List ℕ) → 1 ≤ q → q ≤ steps → trail w steps q l ≡ trail w (steps - 1) (fromAt w q) (edgeAt w q ∷ l)
 unfolding trail
@@ -31,7 +32,7 @@ pub record Leading (w : Waiting) (place q n : ℕ) (before now : List ℕ) : Typ
   pub steps : ℕ
   pub enough : q ≤ steps
   pub leads : trail w steps q behind ≡ pathTo w place
-  pub written : Filled before 0 (reverse behind) now
+  pub written : Laid before 0 (reverse behind) now
   pub counts : n ≡ length behind
   pub room : n + q ≤ place
 
@@ -43,7 +44,7 @@ leading-begins w place before =
       steps = place;
       enough = omega arith;
       leads = refl;
-      written = filled-none before 0 (omega arith);
+      written = laid-none before 0 (omega arith);
       counts = refl;
       room = omega arith;
     }
@@ -69,9 +70,9 @@ module _ {place : ℕ} {queue from before now : List ℕ} (t : Led place queue f
         enough = omega (arith, r .enough);
         leads = ap (λ (z : ℕ). trail (t .w) (r .steps - 1) z (edgeAt (t .w) q ∷ r .behind)) source ∙ sym (trail-step (t .w) (r .steps) q (r .behind) low (r .enough)) ∙ r .leads;
         written =
-            subst₂ (λ (l : List ℕ) (j : ℕ). Filled before 0 l (set now j (getD queue q 0))) (ap (λ (e : ℕ). reverse (r .behind) ++ (e ∷ [])) (held-edge (t .holds) q within) ∙ sym (reverse-cons (edgeAt (t .w) q) (r .behind)))
+            subst₂ (λ (l : List ℕ) (j : ℕ). Laid before 0 l (set now j (getD queue q 0))) (ap (λ (e : ℕ). reverse (r .behind) ++ (e ∷ [])) (held-edge (t .holds) q within) ∙ sym (reverse-cons (edgeAt (t .w) q) (r .behind)))
             index
-            (filled-more (r .written) (getD queue q 0) (omega (arith, few-steps)));
+            (laid-more (r .written) (getD queue q 0) (omega (arith, few-steps)));
         counts = omega (arith, r .counts);
         room = omega (arith, r .room);
       }
@@ -81,6 +82,7 @@ module _ {place : ℕ} {queue from before now : List ℕ} (t : Led place queue f
       let all : r .behind ≡ pathTo (t .w) place =
       sym (trail-over (t .w) (r .steps) (r .behind)) ∙ ap (λ (j : ℕ). trail (t .w) (r .steps) j (r .behind)) (sym z) ∙ r .leads in
       record {
-        backwards = subst (λ (l : List ℕ). Filled before 0 (reverse l) now) all (r .written);
+        backwards = subst (λ (l : List ℕ). Filled (reverse l) before now) all (laid-first (r .written));
         counts = r .counts ∙ ap length all;
+        as-long = laid-length (r .written);
       }

@@ -2,21 +2,22 @@
 -- The lowest bit has the smallest number.
 -- Assumes nothing.
 use mathlib.Core.Path.{_≡_, refl, sym, ap, _∙_, subst}
-use mathlib.Core.Logic.{_≢_}
 use mathlib.Core.List.{List, [], _∷_, _++_, append-nil}
-use Prim.Native.Nat.{ℕ, suc, _+_, _≤_, _<_}
+use Prim.Native.Nat.{ℕ, _+_, _<_}
 use native.Mathlib.Omega.{arith}
 use lib.ListN.{length, set, length-append}
 use lib.Seq.{append-snoc}
-use Rattle.rule.specs.Sets.{Is, Set, In, _without_, count, numbers}
+use Rattle.rule.specs.Sets.{Set, _without_, numbers}
 use Rattle.rule.proofs.Tests.{by-le}
 use Rattle.rule.proofs.Counting.{length-numbers}
-use Rattle.words.specs.Bits.{bit, Lowest, Without}
-use Rattle.search.specs.Filled.{Filled}
-use Rattle.search.specs.Words.{Carries, Coming, Written}
-use Rattle.search.proofs.Filled.{filled-none, filled-more}
-use Rattle.search.proofs.Numbers.{numbers-none, numbers-first}
-use Rattle.search.proofs.Bits.{carries-none, carries-without}
+use Rattle.words.specs.Bits.{Lowest, Without}
+use Rattle.reaching.specs.Laid.{Laid}
+use Rattle.reaching.specs.Words.{Carries, Coming}
+use Rattle.search.specs.Marks.{Written}
+use Rattle.reaching.proofs.Laid.{laid-none, laid-more}
+use Rattle.reaching.proofs.Numbers.{numbers-none}
+use Rattle.search.proofs.Numbers.{numbers-first}
+use Rattle.reaching.proofs.Bits.{carries-none, carries-without}
 
 lowest-first : (base left t : ℕ) (s : Set) (m : ℕ) → Carries (λ j. base + j) left s m → Lowest left t
     → numbers s m ≡ (base + t) ∷ numbers (s without (base + t)) m
@@ -42,7 +43,7 @@ module _ {base size word : ℕ} {before : List ℕ} (t : Coming (λ j. base + j)
         todo = t .edges;
         carried = t .carried;
         all = refl;
-        written = record { filled = filled-none before size (omega (arith, t .room)); counts = omega arith };
+        written = record { laid = laid-none before size (omega (arith, t .room)); counts = omega arith };
       }
 
   module _ {now : List ℕ} {left n : ℕ} (r : Listing base (t .edges) (t .most) size before now left n) where
@@ -80,9 +81,9 @@ module _ {base size word : ℕ} {before : List ℕ} (t : Coming (λ j. base + j)
             all = append-snoc (r .done) (base + b) (numbers rest (t .most)) ∙ ap (λ (l : List ℕ). r .done ++ l) (sym first) ∙ r .all;
             written =
                 record {
-                  filled =
-                      subst (λ (j : ℕ). Filled before size (r .done ++ ((base + b) ∷ [])) (set now j (base + b))) (sym (r .written .counts))
-                      (filled-more (r .written .filled) (base + b) (omega (arith, listing-room, r .written .counts)));
+                  laid =
+                      subst (λ (j : ℕ). Laid before size (r .done ++ ((base + b) ∷ [])) (set now j (base + b))) (sym (r .written .counts))
+                      (laid-more (r .written .laid) (base + b) (omega (arith, listing-room, r .written .counts)));
                   counts = omega (arith, r .written .counts, length-append (r .done) ((base + b) ∷ []));
                 };
           }

@@ -1,24 +1,26 @@
 -- The marked numbers listed word by word: those of the words passed stand in the list, and the numbers of the next word are all larger.
 -- Assumes nothing.
 use mathlib.Core.Path.{_≡_, refl, sym, ap, _∙_, subst}
-use mathlib.Core.Logic.{⊎-elim, _≢_}
-use mathlib.Core.List.{List, [], _++_}
-use Prim.Native.Nat.{ℕ, suc, _+_, _*_, _/_, _%_, _≤_, _<_}
+use mathlib.Core.Logic.{⊎-elim}
+use mathlib.Core.List.{List, _++_}
+use Prim.Native.Nat.{ℕ, _+_, _*_, _/_, _%_, _≤_}
 use native.Mathlib.Omega.{arith}
 use lib.ListN.{length, getD, length-append}
-use Rattle.rule.specs.Sets.{Is, _and_, _or_, _=?_, _<?_, Set, In, below, count, numbers}
-use Rattle.rule.proofs.Tests.{cases, same-test, and-make, and-l, and-r, or-l, or-r, or-elim, eq-of, eq-is, by-eq, by-le, below-in, below-lt, below-make}
+use Rattle.rule.specs.Sets.{Is, _and_, _or_, _=?_, Set, below, count, numbers}
+use Rattle.rule.proofs.Tests.{same-test, and-make, and-l, and-r, or-l, or-r, or-elim, eq-of, eq-is, by-le, below-in, below-lt, below-make}
 use Rattle.rule.proofs.Counting.{count-mono, numbers-eq, length-numbers}
 use Rattle.words.specs.Bits.{bit}
-use Rattle.search.specs.Filled.{Filled}
-use Rattle.search.specs.Words.{Carries, Coming, Written, isMarked, Markings}
-use Rattle.search.proofs.Filled.{filled-none, filled-length, filled-then}
-use Rattle.search.proofs.Numbers.{numbers-none, numbers-split}
+use Rattle.reaching.specs.Laid.{Laid}
+use Rattle.reaching.specs.Words.{Carries, Coming}
+use Rattle.search.specs.Marks.{Written, isMarked, Markings}
+use Rattle.reaching.proofs.Laid.{laid-none, laid-then}
+use Rattle.reaching.proofs.Numbers.{numbers-none}
+use Rattle.search.proofs.Numbers.{numbers-split}
 
 written-then : {a b c l k : List ℕ} {n n′ : ℕ} → Written a 0 l b n → Written b n k c n′ → Written a 0 (l ++ k) c n′
 written-then {b = b} {c = c} {l = l} {k = k} f g =
     record {
-      filled = filled-then (f .filled) (subst (λ (j : ℕ). Filled b j k c) (f .counts) (g .filled));
+      laid = laid-then (f .laid) (subst (λ (j : ℕ). Laid b j k c) (f .counts) (g .laid));
       counts = omega (arith, f .counts, g .counts, length-append l k);
     }
 
@@ -98,7 +100,7 @@ module _ (marks : List ℕ) where
     no-word =
         subst (λ (l : List ℕ). Written before 0 l before 0)
         (sym (numbers-none (passed 0) (t .m) (λ y _ s. absurd (omega (arith, below-lt (isMarked marks) 0 y s)))))
-        (record { filled = filled-none before 0 (omega arith); counts = refl })
+        (record { laid = laid-none before 0 (omega arith); counts = refl })
 
     pub next-word : {now after : List ℕ} {n n′ : ℕ} (i : ℕ) → Written before 0 (numbers (passed i) (t .m)) now n → Written now n (numbers (inWord i) (t .m)) after n′
         → Written before 0 (numbers (passed (i + 1)) (t .m)) after n′

@@ -1,7 +1,7 @@
 -- Edges marked in words, one after another: each is marked once its place is passed, and nothing else is. At the end the marked numbers are the
 -- edges seen, but for the new one.
 -- Assumes nothing.
-use mathlib.Core.Path.{_≡_, refl, sym, ap, ap₂, _∙_, subst}
+use mathlib.Core.Path.{_≡_, sym, ap, ap₂, _∙_, subst}
 use mathlib.Core.Logic.{⊎-elim, _≢_}
 use mathlib.Core.Bool.{Bool, false≢true}
 use mathlib.Core.List.{List}
@@ -17,11 +17,11 @@ use Rattle.theory.specs.Search.{edgeAt}
 use Rattle.theory.proofs.Search.Image.{seen-count}
 use Rattle.words.specs.Bits.{bit}
 use Rattle.words.proofs.Bits.{bit-zero, bit-or, bit-power}
-use Rattle.search.specs.Filled.{Filled}
-use Rattle.search.specs.Words.{Written, isMarked, Marked, Markings}
-use Rattle.search.specs.Ends.{Waits, Listed}
-use Rattle.search.proofs.Bits.{zeros-at, or-none}
-use Rattle.search.proofs.Held.{front-at}
+use Rattle.search.specs.Marks.{Written, isMarked, Marked, Markings}
+use Rattle.search.specs.Ends.{Queued, Listed}
+use Rattle.reaching.proofs.Bits.{zeros-at, or-none}
+use Rattle.reaching.proofs.Laid.{laid-first}
+use Rattle.reaching.proofs.Held.{front-at}
 
 -- ---- one mark more
 
@@ -71,7 +71,7 @@ one-marked {queue = queue} {marks = marks} q low r h =
 
 -- ---- the edges that wait, but for the new one
 
-module _ {n : ℕ} {queue : List ℕ} (t : Waits n queue) where
+module _ {n : ℕ} {queue : List ℕ} (t : Queued n queue) where
   abbrev others : Set
   others = t .w .seen without t .d .m
 
@@ -131,7 +131,7 @@ module _ {n : ℕ} {queue : List ℕ} (t : Waits n queue) where
     others-listed {before = before} {after = after} {len = len} f =
         let g = subst (λ (l : List ℕ). Written before 0 l after len) (numbers-eq (isMarked marks) others (t .d .m) same) f in
         record {
-          in-order = g .filled;
+          in-order = laid-first (g .laid);
           counts = omega (arith, g .counts);
           one-fewer = omega (arith, g .counts, length-numbers others (t .d .m), others-count);
         }

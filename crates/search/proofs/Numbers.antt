@@ -1,29 +1,14 @@
--- More laws of `numbers`: with one number more at the end, of no numbers at all, of a set with one whose numbers are all larger, and of a set and
--- its smallest number.
--- (What stands in the list, and that it ascends: theory's Numbers/Listing.antt.)
+-- More laws of `numbers`: of a set with one whose numbers are all larger, and of a set and its smallest number. (The first laws: reaching's Numbers.antt.)
 -- Assumes nothing.
 use mathlib.Core.Path.{_≡_, refl, sym, ap, ap₂, _∙_, subst}
-use mathlib.Core.Logic.{_⊎_, ⊎-elim, _≢_}
-use mathlib.Core.Bool.{Bool, true, false, false≢true}
+use mathlib.Core.Logic.{⊎-elim}
 use mathlib.Core.List.{List, [], _∷_, _++_, append-assoc, append-nil}
 use Prim.Native.Nat.{ℕ, zero, suc, _≤_, _<_}
 use native.Mathlib.Omega.{arith}
-use Rattle.rule.specs.Sets.{Is, _or_, _=?_, Set, In, _without_, only-if, numbers}
-use Rattle.rule.proofs.Tests.{cases, same-test, is-false, or-l, or-r, or-elim, eq-of, eq-is, by-eq, without-old, without-ne, without-make, in-one, in-last}
+use Rattle.rule.specs.Sets.{Is, _or_, _=?_, Set, In, _without_, numbers}
+use Rattle.rule.proofs.Tests.{cases, same-test, or-l, or-r, or-elim, eq-of, eq-is, by-eq, without-old, without-ne, without-make, in-one, in-last}
 use Rattle.rule.proofs.Counting.{numbers-eq}
-
-pub numbers-in : (s : Set) (m : ℕ) → Is (s (suc m)) → numbers s (suc m) ≡ numbers s m ++ (suc m ∷ [])
-unfolding numbers
-numbers-in s m t = ap (λ (b : Bool). numbers s m ++ only-if b (suc m)) t
-
-pub numbers-out : (s : Set) (m : ℕ) → ¬ (Is (s (suc m))) → numbers s (suc m) ≡ numbers s m
-unfolding numbers
-numbers-out s m n = ap (λ (b : Bool). numbers s m ++ only-if b (suc m)) (is-false (s (suc m)) n) ∙ append-nil (numbers s m)
-
-pub numbers-none : (s : Set) (m : ℕ) → ((y : ℕ) → In m y → ¬ (Is (s y))) → numbers s m ≡ []
-unfolding numbers
-numbers-none s zero f = refl
-numbers-none s (suc m) f = numbers-out s m (f (suc m) (in-last m)) ∙ numbers-none s m (λ y h. f y (in-one m y h))
+use Rattle.reaching.proofs.Numbers.{numbers-in, numbers-out, numbers-none}
 
 -- the numbers of s, and then those of t, are those of both, where all of t are larger
 pub numbers-split : (s t : Set) (m : ℕ) → ((y z : ℕ) → In m y → In m z → Is (s y) → Is (t z) → y < z)

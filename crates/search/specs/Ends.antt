@@ -5,10 +5,10 @@ use Prim.Native.Nat.{ℕ, suc, _≤_, _<_}
 use lib.ListN.{length, take}
 use Rattle.rule.specs.Sets.{_without_, numbers}
 use Rattle.rule.specs.Legal.{Design}
+use Rattle.rule.specs.Calls.{Filled}
 use Rattle.theory.specs.Search.{Waiting, fromAt, pathTo}
 use Rattle.theory.proofs.Search.Reached.{Reached}
-use Rattle.search.specs.Filled.{Filled}
-use Rattle.search.specs.Setting.{Holds}
+use Rattle.reaching.specs.Setting.{Holds}
 
 -- edges wait up to a place and perhaps behind it, each of them reached from an earlier place
 pub record Led (place : ℕ) (queue from : List ℕ) : Type 0 where
@@ -19,11 +19,12 @@ pub record Led (place : ℕ) (queue from : List ℕ) : Type 0 where
 
 -- the path to the place stands in the first places, its last edge first
 pub record Traced (w : Waiting) (place : ℕ) (before after : List ℕ) (n : ℕ) : Type 0 where
-  pub backwards : Filled before 0 (reverse (pathTo w place)) after
+  pub backwards : Filled (reverse (pathTo w place)) before after
   pub counts : n ≡ length (pathTo w place)
+  pub as-long : length after ≡ length before
 
 -- n edges wait, the new one first, each once
-pub record Waits (n : ℕ) (queue : List ℕ) : Type 0 where
+pub record Queued (n : ℕ) (queue : List ℕ) : Type 0 where
   pub d : Design
   pub forest : ℕ → ℕ
   pub w : Waiting
@@ -35,6 +36,6 @@ pub record Waits (n : ℕ) (queue : List ℕ) : Type 0 where
 
 -- the others stand in the first places, smallest first; places past them are as they were
 pub record Listed (w : Waiting) (m n : ℕ) (before after : List ℕ) (len : ℕ) : Type 0 where
-  pub in-order : Filled before 0 (numbers (w .seen without m) m) after
+  pub in-order : Filled (numbers (w .seen without m) m) before after
   pub counts : len ≡ length (numbers (w .seen without m) m)
   pub one-fewer : suc len ≡ n

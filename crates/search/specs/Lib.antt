@@ -1,5 +1,4 @@
-pub mod Filled
-pub mod Words
-pub mod Setting
+pub mod Given
 pub mod Answers
 pub mod Ends
+pub mod Marks

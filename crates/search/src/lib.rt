@@ -1,144 +1,21 @@
-// The search for a place of a new edge.
+// The search for a place of a new edge, the path to it, and the circuit where there is none.
 ghost use mathlib.Core.Path.{_≡_};
 ghost use mathlib.Core.Bool.{cond};
-ghost use mathlib.Core.Logic.{_≢_};
-ghost use Prim.Native.Nat.{ℕ, _+_, _*_, _<_, _≤_};
+ghost use Prim.Native.Nat.{ℕ, _+_, _<_, _≤_};
 ghost use lib.ListN.{length, getD};
-ghost use Rattle.rule.specs.Sets.{Is, _=?_, In, numbers};
-ghost use Rattle.rule.specs.Forests.{limit};
-ghost use Rattle.theory.specs.Search.{tryForest, tryForests};
-ghost use Rattle.search.specs.Filled.{TakesIn};
-ghost use Rattle.search.specs.Words.{Coming, standing, Came, Written, isMarked, Marked, Markings};
-ghost use Rattle.search.specs.Setting.{Given, Sought};
-ghost use Rattle.search.specs.Ends.{Led, Traced, Waits, Listed};
-ghost use Rattle.search.specs.Answers.{Answers, Turned, Searched, Trying, After};
+ghost use Rattle.rule.specs.Sets.{Is, _=?_, numbers};
+ghost use Rattle.reaching.specs.Words.{Coming};
+ghost use Rattle.search.specs.Given.{Given, Sought};
+ghost use Rattle.search.specs.Answers.{Turned, Searched};
+ghost use Rattle.search.specs.Ends.{Led, Traced, Queued, Listed};
+ghost use Rattle.search.specs.Marks.{Written, isMarked, Marked, Markings};
+use reaching::Tried;
 
 // Where the search has come to: its end, at a place of the queue, in a forest where the edge there is free; or no end, and so many edges
 // wait.
 pub enum Outcome {
     Found(usize, usize),
     Stuck(usize),
-}
-
-// Edge e waits among those from place first on, in number order.
-fn wait(e: u16, first: usize, size: usize, queue: &mut [u16; 379])
-    requires { ⌜ (first ≤ size) × (size < 379) × (length (now queue) ≡ 379) ⌝ }
-    ensures { λ _. ⌜ TakesIn e first size (now (queue .entry)) (now (queue .exit)) ⌝ }
-{
-    let mut q = size;
-    while first < q {
-        let before = queue[q - 1];
-        if before < e {
-            queue[q] = e;
-            return;
-        }
-        queue[q] = before;
-        q = q - 1;
-    }
-    queue[q] = e;
-}
-
-// The edges of a word, which stand in a table from index base on, wait behind the others, smallest number first, reached from a place.
-fn reach(
-    base: usize,
-    word: u64,
-    edge: &[u16; 384],
-    queue: &mut [u16; 379],
-    from: &mut [u16; 379],
-    size: usize,
-    place: u16,
-) -> usize
-    requires { ⌜ (base ≤ 320) × (length (now queue) ≡ 379) × (length (now from) ≡ 379) × Coming (standing (now edge) base) word size 379 ⌝ }
-    ensures { λ r. ⌜ ((t : Coming (standing (now (edge .entry)) base) word size 379)
-        → Came (numbers (t .edges) (t .most)) size place (now (queue .entry)) (now (from .entry)) (now (queue .exit)) (now (from .exit)) r) ⌝ }
-{
-    let mut left = word;
-    let mut n = size;
-    while left != 0 {
-        let t = words::lowest(left);
-        let i = base + t;
-        wait(edge[i], size, n, queue);
-        from[n] = place;
-        n = n + 1;
-        left = words::without(left, t);
-    }
-    n
-}
-
-// The edge between u and v, waiting at a place of n, tries forest f, which is not its own.
-fn try_forest(
-    f: usize,
-    u: usize,
-    v: usize,
-    place: usize,
-    n: usize,
-    root: &[u8; 384],
-    way: &[u64; 384],
-    edge: &[u16; 384],
-    queue: &mut [u16; 379],
-    from: &mut [u16; 379],
-    seen: &mut [u64; 6],
-) -> Outcome
-    requires { ⌜ ((t : Trying u v place n (now root) (now way) (now edge) (now queue) (now from) (now seen))
-        × (In (limit (t .d) (t .x)) f × (t .forest (t .x) ≢ f))) ⌝ }
-    ensures { λ r. ⌜ ((t : Trying u v place n (now (root .entry)) (now (way .entry)) (now (edge .entry)) (now (queue .entry)) (now (from .entry)) (now (seen .entry)))
-        → In (limit (t .d) (t .x)) f → t .forest (t .x) ≢ f
-        → Answers (After t (now (queue .exit)) (now (from .exit)) (now (seen .exit))) (tryForest (t .d) (t .forest) place (t .x) f (t .w)) r) ⌝ }
-{
-    if tables::joined(root, f, u, v) {
-        let on = tables::path(way, f, u, v);
-        let g = f - 1;
-        let old = seen[g];
-        let both = old | on;
-        seen[g] = both;
-        let more = reach(g * 64, both ^ old, edge, queue, from, n, place as u16);
-        Outcome::Stuck(more)
-    } else {
-        Outcome::Found(place, f)
-    }
-}
-
-// The edge between u and v, waiting at a place of start, tries its forests 1 to last in number order, passing over its own.
-fn try_forests(
-    own: usize,
-    last: usize,
-    u: usize,
-    v: usize,
-    place: usize,
-    start: usize,
-    root: &[u8; 384],
-    way: &[u64; 384],
-    edge: &[u16; 384],
-    queue: &mut [u16; 379],
-    from: &mut [u16; 379],
-    seen: &mut [u64; 6],
-) -> Outcome
-    requires { ⌜ ((t : Trying u v place start (now root) (now way) (now edge) (now queue) (now from) (now seen))
-        × ((limit (t .d) (t .x) ≡ last) × (t .forest (t .x) ≡ own))) ⌝ }
-    ensures { λ r. ⌜ ((t : Trying u v place start (now (root .entry)) (now (way .entry)) (now (edge .entry)) (now (queue .entry)) (now (from .entry)) (now (seen .entry)))
-        → limit (t .d) (t .x) ≡ last → t .forest (t .x) ≡ own
-        → Answers (After t (now (queue .exit)) (now (from .exit)) (now (seen .exit))) (tryForests (t .d) (t .forest) place (t .x) last (t .w)) r) ⌝ }
-{
-    let mut n = start;
-    let mut tried: usize = 0;
-    while tried < last {
-        let f = tried + 1;
-        if f == own {
-            tried = f;
-        } else {
-            let t = try_forest(f, u, v, place, n, root, way, edge, queue, from, seen);
-            match t {
-                Outcome::Found(p, g) => {
-                    return Outcome::Found(p, g);
-                }
-                Outcome::Stuck(more) => {
-                    n = more;
-                    tried = f;
-                }
-            }
-        }
-    }
-    Outcome::Stuck(n)
 }
 
 fn wide(x: u8) -> usize
@@ -182,7 +59,7 @@ fn turn(
     let last = last_of(colours[i], a, k);
     let u = wide(ones[i]);
     let v = wide(others[i]);
-    try_forests(
+    let t = reaching::try_forests(
         own,
         last,
         u,
@@ -195,7 +72,11 @@ fn turn(
         queue,
         from,
         seen,
-    )
+    );
+    match t {
+        Tried::Free(f) => Outcome::Found(place, f),
+        Tried::Waits(more) => Outcome::Stuck(more),
+    }
 }
 
 // The turns of the waiting edges, after that of the new one, until all have had theirs.
@@ -280,10 +161,10 @@ pub fn search(
     from[0] = 0;
     let mut seen = [0u64; 6];
     let last = last_of(colour, a, k);
-    let r = try_forests(0, last, u, v, 0, 1, root, way, edge, queue, from, &mut seen);
-    match r {
-        Outcome::Found(p, f) => Outcome::Found(p, f),
-        Outcome::Stuck(n) => turns(
+    let t = reaching::try_forests(0, last, u, v, 0, 1, root, way, edge, queue, from, &mut seen);
+    match t {
+        Tried::Free(f) => Outcome::Found(0, f),
+        Tried::Waits(n) => turns(
             a,
             k,
             n,
@@ -322,13 +203,13 @@ fn mark(n: usize, queue: &[u16; 379], marks: &mut [u64; 9])
         × ((y : ℕ) → ¬ (Is (isMarked (now marks) y))) ⌝ }
     ensures { λ _. ⌜ Marked (now (queue .entry)) n (now (marks .exit)) ⌝ }
 {
-    let mut q: usize = 1;
-    while q < n {
-        let e = queue[q];
+    let mut p: usize = 1;
+    while p < n {
+        let e = queue[p];
         let i = (e / 64) as usize;
         let bit = words::one((e % 64) as usize);
         marks[i] = marks[i] | bit;
-        q = q + 1;
+        p = p + 1;
     }
 }
 
@@ -366,8 +247,8 @@ fn list_marked(marks: &[u64; 9], list: &mut [u16]) -> usize
 
 // The circuit: the edges that wait, but for the new one, in the first places of the list, smallest first, and how many they are.
 pub fn circuit(n: usize, queue: &[u16; 379], list: &mut [u16]) -> usize
-    requires { ⌜ (378 ≤ length (now list)) × Waits n (now queue) ⌝ }
-    ensures { λ r. ⌜ ((t : Waits n (now (queue .entry))) → Listed (t .w) (t .d .m) n (now (list .entry)) (now (list .exit)) r) ⌝ }
+    requires { ⌜ (378 ≤ length (now list)) × Queued n (now queue) ⌝ }
+    ensures { λ r. ⌜ ((t : Queued n (now (queue .entry))) → Listed (t .w) (t .d .m) n (now (list .entry)) (now (list .exit)) r) ⌝ }
 {
     let mut marks = [0u64; 9];
     mark(n, queue, &mut marks);

@@ -4,7 +4,7 @@
 use mathlib.Core.Path.{_≡_, refl, sym, _∙_, ap, subst}
 use mathlib.Core.Logic.{⊎-elim}
 use mathlib.Core.List.{List, _∷_}
-use Prim.Native.Nat.{ℕ, suc, _+_, _<_}
+use Prim.Native.Nat.{ℕ, suc, _<_}
 use native.Mathlib.Omega.{arith}
 use Rattle.rule.specs.declared.Book.{Book}
 use Rattle.rule.specs.declared.Answer.{Answer}
@@ -17,7 +17,6 @@ use Rattle.rule.specs.Calls.{KeepsIt, ImpliesIt, Offer, Question}
 use Rattle.theory.specs.Exchange.{shifted}
 use Rattle.theory.specs.Search.{pathTo}
 use Rattle.theory.proofs.Legal.Sound.{sound-head}
-use Rattle.tables.specs.Tables.{Tabled}
 use Rattle.book.specs.declared.Checked.{Checked}
 use Rattle.book.specs.Checks.{Found}
 use Rattle.placing.specs.declared.Head.{Head}

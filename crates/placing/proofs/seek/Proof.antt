@@ -9,7 +9,7 @@ use Rattle.rule.specs.declared.Book.{Book}
 use Rattle.rule.specs.Books.{offered, next}
 use Rattle.theory.specs.Search.{search as searching}
 use Rattle.theory.proofs.Legal.Sound.{sound-head}
-use Rattle.search.specs.Setting.{Holds}
+use Rattle.reaching.specs.Setting.{Holds}
 use Rattle.search.specs.declared.Outcome.{Outcome}
 use Rattle.search.specs.declared.Outcome.the-variants.{Found, Stuck}
 use Rattle.search.specs.Answers.{Answers}

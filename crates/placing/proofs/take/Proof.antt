@@ -1,14 +1,14 @@
 -- `placing::take`: the edge is sought a place for, entered, and moved to it where there is one (proofs/Taking.antt).
 use borrow.Author.Needs.{needs}
-use mathlib.Core.Path.{_≡_, refl, sym, subst}
+use mathlib.Core.Path.{subst}
 use mathlib.Core.List.{List}
-use Prim.Native.Nat.{ℕ, suc, _+_, _<_}
+use Prim.Native.Nat.{ℕ, _+_}
 use native.Mathlib.Omega.{arith}
 use Rattle.rule.specs.declared.Book.{Book}
 use Rattle.placing.specs.declared.Place.{Place}
 use Rattle.placing.specs.declared.Place.the-variants.{Found, Stuck}
 use Rattle.placing.specs.Seek.{bookOf, Seeks}
-use Rattle.placing.specs.Take.{Entered, Takeable, Takes}
+use Rattle.placing.specs.Take.{Takeable}
 use Rattle.placing.proofs.Taking.{room, seekable, takes-implied, replanting, takes-kept}
 use Rattle.placing.proofs.take.Statement.{statement}
 use Rattle.placing.proofs.take.Tie as tie

@@ -4,8 +4,6 @@ use mathlib.Core.Path.{refl}
 use Rattle.search.proofs.Marking.{no-marks, has-word, some-wait, markings, others-listed}
 use Rattle.search.proofs.circuit.Statement.{statement}
 use Rattle.search.proofs.circuit.Tie as tie
-use Rattle.search.proofs.circuit.Reads as reads
-use Rattle.search.proofs.circuit.Lts as lts
 
 mark-requires : tie.Need-mark-requires
 mark-requires c κs =

@@ -1,12 +1,11 @@
 -- `search::list_marked`: the numbers of the words passed stand in the list.
 use borrow.Author.Needs.{needs}
-use mathlib.Core.Path.{_≡_, sym, ap, _∙_, subst}
-use Prim.Native.Nat.{ℕ, _+_, _-_, _*_, _^_, _≤_, _<_}
+use Prim.Native.Nat.{_-_, _≤_}
 use native.Mathlib.Omega.{arith}
-use lib.ListN.{length, getD}
+use lib.ListN.{length}
 use Rattle.rule.specs.Sets.{numbers}
-use Rattle.search.specs.Words.{Coming, Written, Markings}
-use Rattle.search.proofs.Filled.{filled-length}
+use Rattle.search.specs.Marks.{Written, Markings}
+use Rattle.reaching.proofs.Laid.{laid-length}
 use Rattle.search.proofs.MarkedList.{passed, word-comes, no-word, next-word, all-words}
 use Rattle.search.proofs.list_marked.Statement.{statement}
 use Rattle.search.proofs.list_marked.Tie as tie
@@ -39,7 +38,7 @@ list-word-requires c κs =
     let marks = at .before .before .args .marks .now in
     let t = at .before .before .pre in
     let r = at .loop .inv .1 t in
-    (omega arith, word-comes marks t (at .loop .i) (filled-length (r .filled)) (r .counts))
+    (omega arith, word-comes marks t (at .loop .i) (laid-length (r .laid)) (r .counts))
 
 add-i : tie.Need-add-i Inv-loop μ-loop
 add-i c = search needs
@@ -55,11 +54,11 @@ loop-again c =
       λ t.
           let r = at .loop .inv .1 t in
           next-word marks t (at .loop .i) r
-          (c .before .before .list-word .ensures (word-comes marks t (at .loop .i) (filled-length (r .filled)) (r .counts))),
+          (c .before .before .list-word .ensures (word-comes marks t (at .loop .i) (laid-length (r .laid)) (r .counts))),
     )
 
 same-length : tie.Need-same-length Inv-loop μ-loop
-same-length c = filled-length (c .before .loop .inv .1 (c .before .before .before .pre) .filled)
+same-length c = laid-length (c .before .loop .inv .1 (c .before .before .before .pre) .laid)
 
 returns : tie.Need-returns Inv-loop μ-loop
 returns c t = all-words (c .before .before .before .args .marks .now) t (c .before .loop .i) (omega arith) (c .before .loop .inv .1 t)

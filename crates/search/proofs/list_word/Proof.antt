@@ -4,8 +4,8 @@ use mathlib.Core.Path.{_≡_}
 use Prim.Native.Nat.{_+_, _<_}
 use native.Mathlib.Omega.{arith}
 use lib.ListN.{length}
-use Rattle.search.specs.Words.{Coming}
-use Rattle.search.proofs.Filled.{filled-length}
+use Rattle.reaching.specs.Words.{Coming}
+use Rattle.reaching.proofs.Laid.{laid-length}
 use Rattle.search.proofs.Listing.{Listing, listing-begins, listing-room, listing-next, listing-ends}
 use Rattle.search.proofs.list_word.Statement.{statement}
 use Rattle.search.proofs.list_word.Tie as tie
@@ -29,7 +29,7 @@ room : (c : tie.After-lowest Inv-loop μ-loop)
 room c =
     let t = c .before .before .before .before .pre .1 in
     let r = c .before .before .loop .inv t in
-    (listing-room t r (c .lowest .ensures), filled-length (r .written .filled))
+    (listing-room t r (c .lowest .ensures), laid-length (r .written .laid))
 
 cast-list : tie.Need-cast-list Inv-loop μ-loop
 cast-list c = search needs
@@ -56,7 +56,7 @@ loop-again : tie.Need-loop-again Inv-loop μ-loop
 loop-again c t = listing-next t (c .before .before .before .loop .inv t) (c .before .lowest .ensures) (c .without .ensures)
 
 same-length : tie.Need-same-length Inv-loop μ-loop
-same-length c = filled-length (c .before .loop .inv (c .before .before .before .pre .1) .written .filled)
+same-length c = laid-length (c .before .loop .inv (c .before .before .before .pre .1) .written .laid)
 
 returns : tie.Need-returns Inv-loop μ-loop
 returns c t = listing-ends t (c .before .loop .inv t) (c .loop-test .left)

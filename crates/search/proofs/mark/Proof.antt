@@ -1,28 +1,27 @@
 -- `search::mark`: the edges at the places passed are marked, and no others (`Marked`).
 use borrow.Author.Needs.{needs}
 use mathlib.Core.Path.{_≡_, sym, _∙_, subst}
-use mathlib.Core.List.{List}
 use Prim.Native.Nat.{ℕ, _+_, _-_, _/_, _≤_, _<_}
 use native.Mathlib.Omega.{arith}
 use lib.Bits.{bitOr}
 use lib.ListN.{length, getD, set, length-set}
-use Rattle.search.specs.Words.{Marked}
+use Rattle.search.specs.Marks.{Marked}
 use Rattle.search.proofs.Marking.{none-marked, one-marked}
 use Rattle.search.proofs.mark.Statement.{statement}
 use Rattle.search.proofs.mark.Tie as tie
 
 abbrev Inv-loop : tie.InvT-loop
-Inv-loop n queue marks₀ q₀ marks q = (1 ≤ q) × (q ≤ n) × (length marks ≡ 9) × Marked queue q marks
+Inv-loop n queue marks₀ p₀ marks p = (1 ≤ p) × (p ≤ n) × (length marks ≡ 9) × Marked queue p marks
 
 abbrev μ-loop : tie.MeasureT-loop
-μ-loop n queue marks₀ q₀ marks q = n - q
+μ-loop n queue marks₀ p₀ marks p = n - p
 
 loop-holds : tie.Need-loop-holds Inv-loop μ-loop
 loop-holds c = (omega arith, c .pre .0, c .pre .2, none-marked (c .args .queue .now) (c .args .marks .now) (c .pre .4))
 
 -- in a turn: the edge has a word
-small : (c : tie.In-loop Inv-loop μ-loop) → getD (c .before .before .args .queue .now) (c .before .loop .q) 0 < 576
-small c = c .before .before .pre .3 (c .before .loop .q) (c .before .loop .inv .0) (c .loop-test .taken)
+small : (c : tie.In-loop Inv-loop μ-loop) → getD (c .before .before .args .queue .now) (c .before .loop .p) 0 < 576
+small c = c .before .before .pre .3 (c .before .loop .p) (c .before .loop .inv .0) (c .loop-test .taken)
 
 mul-e : tie.Need-mul-e Inv-loop μ-loop
 mul-e c = search needs
@@ -51,8 +50,8 @@ mul-marks-2 c = omega (arith, small (c .before .before .before))
 element-write-marks : tie.Need-element-write-marks Inv-loop μ-loop
 element-write-marks c = omega (arith, small (c .before .before .before))
 
-add-q : tie.Need-add-q Inv-loop μ-loop
-add-q c = search needs
+add-p : tie.Need-add-p Inv-loop μ-loop
+add-p c = search needs
 
 loop-less : tie.Need-loop-less Inv-loop μ-loop
 loop-less c = search needs
@@ -62,17 +61,17 @@ loop-again c =
     let at = c .before .before .before .before in
     let queue = at .before .args .queue .now in
     let marks = at .loop .marks in
-    let e = getD queue (at .loop .q) 0 in (
+    let e = getD queue (at .loop .p) 0 in (
       omega arith,
       omega arith,
       length-set marks (e / 64) _ ∙ at .loop .inv .2,
-      subst (λ (b : ℕ). Marked queue (at .loop .q + 1) (set marks (e / 64) (bitOr (getD marks (e / 64) 0) b))) (sym (c .before .one .ensures))
-          (one-marked (at .loop .q) (at .loop .inv .0) (at .loop .inv .3) (omega (arith, small (c .before .before .before)))),
+      subst (λ (b : ℕ). Marked queue (at .loop .p + 1) (set marks (e / 64) (bitOr (getD marks (e / 64) 0) b))) (sym (c .before .one .ensures))
+          (one-marked (at .loop .p) (at .loop .inv .0) (at .loop .inv .3) (omega (arith, small (c .before .before .before)))),
     )
 
 returns : tie.Need-returns Inv-loop μ-loop
 returns c =
-    let over : c .before .loop .q ≡ c .before .before .args .n = omega arith in
+    let over : c .before .loop .p ≡ c .before .before .args .n = omega arith in
     subst (λ (n : ℕ). Marked (c .before .before .args .queue .now) n (c .before .loop .marks)) over (c .before .loop .inv .3)
 
 pub mark-spec : {M : Type 1} → statement M
@@ -91,7 +90,7 @@ mark-spec =
     element-copy-out-marks
     mul-marks-2
     element-write-marks
-    add-q
+    add-p
     loop-less
     loop-again
     returns)

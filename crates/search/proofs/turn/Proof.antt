@@ -1,10 +1,16 @@
 -- `search::turn`: the arrays tell the edge's bodies, its colour and its forest, and with these it tries its forests.
 use borrow.Author.Needs.{needs}
-use mathlib.Core.Path.{sym, _∙_}
+use mathlib.Core.Path.{_≡_, sym, _∙_, subst}
 use Prim.Native.Nat.{_-_, _<_, _≤_}
 use native.Mathlib.Omega.{arith}
 use lib.ListN.{getD}
-use Rattle.search.proofs.AllTurns.{limit-is, few-waiting, queue-at, edge-range, earlier-edge, edge-read, has-turn, turn-answers}
+use Rattle.rule.specs.Forests.{limit}
+use Rattle.theory.specs.Search.{edgeAt}
+use Rattle.reaching.specs.Trying.{Tells, Trying}
+use Rattle.search.specs.declared.Outcome.the-variants.{Stuck}
+use Rattle.search.specs.Given.{Edge, Given}
+use Rattle.search.specs.Answers.{Turned}
+use Rattle.search.proofs.AllTurns.{limit-is, few-waiting, queue-at, edge-range, earlier-edge, edge-read, has-turn, turn-ends, turn-goes}
 use Rattle.search.proofs.turn.Statement.{statement}
 use Rattle.search.proofs.turn.Tie as tie
 
@@ -56,28 +62,58 @@ element-copy-out-wide-3 c = within (c .before .before .before .before .before .b
 wide-requires-3 : tie.Need-wide-requires-3
 wide-requires-3 c κs = search needs
 
+-- the reads are over
+abbrev start : tie.After-wide3 → tie.Start
+start c = c .before .before .before .before .before .before .before .before .before
+
+abbrev Task : tie.Start → Type 0
+Task c =
+    (g : Given (c .args .a) (c .args .k) (c .args .ones .now) (c .args .others .now) (c .args .colours .now) (c .args .forests .now) (c .args .root .now) (c .args .way .now) (c .args .edge .now))
+    × Turned g (c .args .queue .now) (c .args .from .now) (c .args .seen .now) (c .args .place) (Stuck (c .args .n))
+
+record Reads (c : tie.After-wide3) (t : Task (start c)) : Type 0 where
+  edge :
+      Edge (t .0 .d) (t .0 .forest) (edgeAt (t .1 .waiting) (start c .args .place)) (c .before .before .wide2 .result) (c .wide3 .result)
+      (getD (start c .args .colours .now) (getD (start c .args .queue .now) (start c .args .place) 0 - 1) 0)
+      (c .before .before .before .before .before .before .wide .result)
+  last : limit (t .0 .d) (edgeAt (t .1 .waiting) (start c .args .place)) ≡ c .before .before .before .before .last-of .result
+
+reads : (c : tie.After-wide3) (t : Task (start c)) → Reads c t
+reads c t =
+    let e =
+    edge-read (t .0) (start c .args .place) (t .1) (start c .pre .1 .1 .0) (start c .pre .1 .0) (c .before .before .wide2 .ensures) (c .wide3 .ensures) (c .before .before .before .before .before .before .wide .ensures) in
+    record { edge = e; last = limit-is e (t .0 .for-red) (t .0 .for-black) ∙ sym (c .before .before .before .before .last-of .ensures) }
+
+abbrev tries : (c : tie.After-wide3) (t : Task (start c))
+    → Trying (c .before .before .wide2 .result) (c .wide3 .result) (start c .args .place) (start c .args .n) (start c .args .root .now) (start c .args .way .now)
+    (start c .args .edge .now) (start c .args .queue .now) (start c .args .from .now) (start c .args .seen .now)
+tries c t = has-turn (t .0) (start c .args .place) (t .1) (start c .pre .1 .1 .0) (reads c t .edge)
+
 try-forests-requires : tie.Need-try-forests-requires
 try-forests-requires c κs =
-    let read = c .before .before .before in
-    let start = read .before .before .before .before .before .before .before .before .before in
-    let g = start .pre .0 in
-    let q = start .args .place in
-    let h = start .pre .1 .1 .0 in
-    let s = start .pre .1 .1 .1 in
-    let e = edge-read g q s h (start .pre .1 .0) (read .before .before .wide2 .ensures) (read .wide3 .ensures) (read .before .before .before .before .before .before .wide .ensures) in
-    (has-turn g q s h e, (limit-is e (g .for-red) (g .for-black) ∙ sym (read .before .before .before .before .last-of .ensures), e .stands))
+    let r = c .before .before .before in
+    let t : Task (start r) = (start r .pre .0, start r .pre .1 .1 .1) in
+    (tries r t, (reads r t .last, reads r t .edge .stands))
+
+enum-known-t : tie.Need-enum-known-t
+enum-known-t c = search needs
+
+enum-known-t-2 : tie.Need-enum-known-t-2
+enum-known-t-2 c = search needs
 
 returns : tie.Need-returns
 returns c g s =
-    let read = c .before .before .before .before in
-    let start = read .before .before .before .before .before .before .before .before .before in
-    let q = start .args .place in
-    let h = start .pre .1 .1 .0 in
-    let e = edge-read g q s h (start .pre .1 .0) (read .before .before .wide2 .ensures) (read .wide3 .ensures) (read .before .before .before .before .before .before .wide .ensures) in
-    let limited = limit-is e (g .for-red) (g .for-black) ∙ sym (read .before .before .before .before .last-of .ensures) in
-    let arrays = c .try-forests .last .1 .1 .1 .1 .1 .1 .1 .1 .1 in
-    turn-answers g q s h e limited (arrays .0) (arrays .1 .0) (arrays .1 .1 .0) (c .try-forests .result)
-    (c .try-forests .ensures (has-turn g q s h e) limited (e .stands))
+    let told = c .before .before .before in
+    let r = told .before .before .before .before in
+    turn-ends g (start r .args .place) s (start r .pre .1 .1 .0) (reads r (g, s) .edge) (reads r (g, s) .last)
+    (subst (Tells _ _ _) (c .before .t .given .1) (told .try-forests .ensures (tries r (g, s)) (reads r (g, s) .last) (reads r (g, s) .edge .stands)))
+
+returns-2 : tie.Need-returns-2
+returns-2 c g s =
+    let told = c .before .before .before in
+    let r = told .before .before .before .before in
+    turn-goes g (start r .args .place) s (start r .pre .1 .1 .0) (reads r (g, s) .edge) (reads r (g, s) .last)
+    (subst (Tells _ _ _) (c .before .t2 .given .1) (told .try-forests .ensures (tries r (g, s)) (reads r (g, s) .last) (reads r (g, s) .edge .stands)))
 
 pub turn-spec : {M : Type 1} → statement M
 turn-spec =
@@ -96,4 +132,7 @@ turn-spec =
     element-copy-out-wide-3
     wide-requires-3
     try-forests-requires
-    returns)
+    enum-known-t
+    enum-known-t-2
+    returns
+    returns-2)

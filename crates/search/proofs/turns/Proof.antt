@@ -5,7 +5,7 @@ use mathlib.Core.Path.{subst}
 use Prim.Native.Nat.{_+_, _-_, _≤_}
 use native.Mathlib.Omega.{arith}
 use Rattle.search.specs.declared.Outcome.the-variants.{Stuck}
-use Rattle.search.specs.Setting.{Given}
+use Rattle.search.specs.Given.{Given}
 use Rattle.search.specs.Answers.{Answers, Turned}
 use Rattle.search.proofs.AllTurns.{ended, all-edges, few-waiting, all-over}
 use Rattle.search.proofs.turns.Statement.{statement}

@@ -1,11 +1,8 @@
 -- `step::offer`: a refusal is handed on; else the edge is taken.
 use borrow.Author.Needs.{needs}
 use mathlib.Core.Path.{_≡_, refl}
-use Prim.Native.Nat.{_≤_}
-use native.Mathlib.Omega.{arith}
 use lib.ListN.{length}
 use Rattle.rule.specs.Reasons.{Pass, offerChecks}
-use Rattle.theory.proofs.Legal.Sound.{sound-head}
 use Rattle.book.specs.Checks.{Holds}
 use Rattle.placing.specs.Take.{Full}
 use Rattle.step.proofs.Asked.{passed, offer-refused, small-body, small-colour}

@@ -1,10 +1,7 @@
 -- `step::question`: a refusal is handed on; else a place is sought.
 use borrow.Author.Needs.{needs}
 use mathlib.Core.Path.{refl}
-use Prim.Native.Nat.{_≤_}
-use native.Mathlib.Omega.{arith}
 use Rattle.rule.specs.Reasons.{Pass, questionChecks}
-use Rattle.theory.proofs.Legal.Sound.{sound-head}
 use Rattle.book.specs.Checks.{Holds}
 use Rattle.step.proofs.Asked.{passed, question-refused, small-body, small-colour}
 use Rattle.step.proofs.question.Statement.{statement}

@@ -1,22 +1,22 @@
 -- The edges of a word come to wait, bit by bit: those of the bits passed wait already, in number order, and those of the bits that are
 -- left are still to come (`Reaching`).
 -- Assumes nothing.
-use mathlib.Core.Path.{_≡_, refl, sym, ap, ap₂, _∙_, subst, subst₂}
+use mathlib.Core.Path.{_≡_, sym, ap, ap₂, _∙_, subst, subst₂}
 use mathlib.Core.Logic.{⊎-elim}
 use mathlib.Core.Bool.{Bool, true, false, false≢true}
 use mathlib.Core.List.{List}
 use Prim.Native.Nat.{ℕ, suc, _+_, _≤_, _<_}
 use native.Mathlib.Omega.{arith}
-use lib.ListN.{length, getD, set, replicate}
+use lib.ListN.{length, set, replicate}
 use Rattle.rule.specs.Sets.{Is, _or_, Set, In, _with_, _without_, count, numbers}
 use Rattle.rule.proofs.Tests.{never, same-test, by-eq, or-l, or-r, or-elim, put-other, with-self, with-elim, without-old, without-ne}
 use Rattle.rule.proofs.Counting.{count-pos, count-with, count-without, numbers-eq, length-numbers}
 use Rattle.words.specs.Bits.{Lowest, Without}
-use Rattle.search.specs.Filled.{Filled, TakesIn}
-use Rattle.search.specs.Words.{Carries, Coming, Came}
-use Rattle.search.proofs.Filled.{filled-none, filled-repeat}
-use Rattle.search.proofs.Numbers.{numbers-none}
-use Rattle.search.proofs.Bits.{carries-none, carries-without}
+use Rattle.reaching.specs.Laid.{Laid, TakesIn}
+use Rattle.reaching.specs.Words.{Carries, Came}
+use Rattle.reaching.proofs.Laid.{laid-none, laid-repeat}
+use Rattle.reaching.proofs.Numbers.{numbers-none}
+use Rattle.reaching.proofs.Bits.{carries-none, carries-without}
 
 pub record Reaching (of : ℕ → ℕ) (edges : Set) (most size place : ℕ) (queue₀ from₀ queue from : List ℕ) (left n : ℕ) : Type 0 where
   pub done : Set
@@ -38,7 +38,7 @@ reaching-begins of edges most size place word queue from c room lq lf =
       apart = λ y _ t. false≢true t;
       came =
           subst (λ (l : List ℕ). Came l size place queue from queue from size) (sym (numbers-none (λ _. false) most (λ _ _ t. false≢true t)))
-          (record { waits = filled-none queue size (omega arith); reached = filled-none from size (omega arith); counts = omega arith });
+          (record { waits = laid-none queue size (omega arith); reached = laid-none from size (omega arith); counts = omega arith });
       room = room;
     }
 
@@ -72,8 +72,8 @@ module _ {of : ℕ → ℕ} {edges : Set} {most size place : ℕ} {queue₀ from
         record {
           waits = takes .in-order queue₀ (r .done) most (k .0) new (r .came .counts) (r .came .waits);
           reached =
-              subst₂ (λ (j p : ℕ). Filled from₀ size (replicate j place) (set from p place)) (sym long) (sym (r .came .counts))
-              (filled-repeat (length (numbers (r .done) most)) place (r .came .reached) (omega (arith, r .came .counts, reaching-room low)));
+              subst₂ (λ (j p : ℕ). Laid from₀ size (replicate j place) (set from p place)) (sym long) (sym (r .came .counts))
+              (laid-repeat (length (numbers (r .done) most)) place (r .came .reached) (omega (arith, r .came .counts, reaching-room low)));
           counts = omega (arith, r .came .counts);
         }
 

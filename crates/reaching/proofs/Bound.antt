@@ -1,23 +1,21 @@
 -- At most 379 edges wait: the new one, and kept ones, of which each of the six forests has at most 63, one in each of its slots.
 -- Assumes nothing.
-use mathlib.Core.Path.{_≡_, refl, sym, ap, _∙_, subst}
+use mathlib.Core.Path.{_≡_, sym, ap, _∙_, subst}
 use mathlib.Core.Logic.{_≢_}
 use mathlib.Core.List.{List}
-use Prim.Native.Nat.{ℕ, zero, suc, _+_, _*_, _≤_, _<_}
+use Prim.Native.Nat.{ℕ, zero, suc, _≤_, _<_}
 use native.Mathlib.Omega.{arith}
 use Rattle.rule.specs.Sets.{Is, _and_, _=?_, Set, In, _without_, count}
 use Rattle.rule.specs.Legal.{Design, k}
-use Rattle.rule.specs.Forests.{limit}
 use Rattle.rule.proofs.Tests.{cases, and-r, eq-of, by-eq, by-le, without-old, without-ne}
 use Rattle.rule.proofs.Counting.{count-none, count-without}
-use Rattle.theory.specs.Numbers.{sum}
 use Rattle.theory.specs.Search.{Waiting, edgeAt, fromAt}
 use Rattle.theory.proofs.Numbers.Sums.{sum-mono, sum-const, fibre}
 use Rattle.theory.proofs.Legal.Kept.{limit-most}
 use Rattle.theory.proofs.Search.Reached.{size, Reached}
 use Rattle.theory.proofs.Search.Image.{seen-count}
-use Rattle.tables.specs.Tables.{slot, filled, Slots}
-use Rattle.search.specs.Setting.{Setting}
+use Rattle.tables.specs.Tables.{slot, filled}
+use Rattle.reaching.specs.Setting.{Setting}
 
 -- ---- a set whose numbers are all among n has at most n of them
 

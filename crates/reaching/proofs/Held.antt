@@ -7,7 +7,7 @@ use native.Mathlib.Omega.{arith}
 use lib.ListN.{length, getD, take, length-take}
 use lib.Seq.{getD-take}
 use Rattle.theory.specs.Search.{Waiting, edgeAt, fromAt}
-use Rattle.search.specs.Setting.{Holds}
+use Rattle.reaching.specs.Setting.{Holds}
 
 -- the front of an array
 pub front-at : (whole list : List ℕ) (n p : ℕ) → take n whole ≡ list → p < n → getD whole p 0 ≡ getD list p 0

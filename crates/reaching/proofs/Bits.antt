@@ -1,17 +1,16 @@
--- Going through the bits of a word, one after another. A word that carries a set carries it without the number of a bit when that bit is
--- taken away; an empty word carries nothing; and the lowest bit has the smallest number where larger bits have larger ones.
+-- Going through the bits of a word, one after another: a word that carries a set carries it without the number of a bit when that bit is taken
+-- away, and a word that is 0 carries nothing. This serves every loop over bits. And words that are all 0.
 -- Assumes nothing.
 use mathlib.Core.Path.{_≡_, refl, sym, ap, _∙_, subst}
 use mathlib.Core.Logic.{⊎-elim, _≢_}
 use mathlib.Core.Bool.{Bool, false≢true}
-use Prim.Native.Nat.{ℕ, zero, suc, _≤_, _<_}
-use native.Mathlib.Omega.{arith}
+use Prim.Native.Nat.{ℕ, zero, suc, _<_}
 use lib.ListN.{getD, replicate}
-use Rattle.rule.specs.Sets.{Is, _and_, _or_, isnt, _=?_, Set, In, _without_}
+use Rattle.rule.specs.Sets.{Is, _or_, Set, In, _without_}
 use Rattle.rule.proofs.Tests.{same-test, and-make, and-l, and-r, or-l, or-elim, isnt-make, isnt-not, eq-of, eq-is, without-old, without-ne, without-make}
 use Rattle.words.specs.Bits.{bit, Without}
 use Rattle.words.proofs.Bits.{bit-zero}
-use Rattle.search.specs.Words.{Carries}
+use Rattle.reaching.specs.Words.{Carries}
 
 pub zeros-at : (n i : ℕ) → _≡_ {A = ℕ} (getD (replicate n 0) i 0) 0
 zeros-at zero i = refl

@@ -1,27 +1,25 @@
 -- What the tables say of an edge x and a forest f: whether f joins the ends of x, which slots of f are on the path between them, and that
 -- the slots on the path, less those seen already, carry the edges that x reaches anew.
 -- Assumes nothing.
-use mathlib.Core.Path.{_≡_, refl, sym, ap, ap₂, _∙_, subst}
-use mathlib.Core.Logic.{_≢_}
+use mathlib.Core.Path.{_≡_, refl, sym, ap, _∙_, subst}
 use mathlib.Core.Bool.{Bool, true, false}
 use mathlib.Core.List.{List}
-use Prim.Native.Nat.{ℕ, _-_, _≤_, _<_}
+use Prim.Native.Nat.{ℕ, _<_}
 use native.Mathlib.Omega.{arith}
 use lib.Bits.{bitXor, bitOr}
-use lib.ListN.{getD}
-use Rattle.rule.specs.Sets.{Is, _and_, _or_, isnt, _=?_, Set, In, _without_}
+use Rattle.rule.specs.Sets.{Is, _and_, _or_, isnt, _=?_, In}
 use Rattle.rule.specs.Legal.{Design}
 use Rattle.rule.specs.Forests.{inForest}
-use Rattle.rule.proofs.Tests.{cases, same-test, and-make, and-l, and-r, isnt-make, isnt-not, by-le}
-use Rattle.theory.specs.Joined.{joined, spans, onPath}
+use Rattle.rule.proofs.Tests.{cases, same-test, and-make, and-l, and-r, by-le}
+use Rattle.theory.specs.Joined.{spans, onPath}
 use Rattle.theory.specs.Search.{Waiting, fresh}
-use Rattle.theory.proofs.Exchange.Step.{path-in, path-edge, path-needs, path-make}
+use Rattle.theory.proofs.Exchange.Step.{path-in, path-needs, path-make}
 use Rattle.theory.proofs.Legal.Kept.{forest-make, forest-is}
 use Rattle.words.specs.Bits.{bit}
 use Rattle.words.proofs.Bits.{_differs_, bit-xor, bit-or, differs-same, same-differs}
 use Rattle.tables.specs.Tables.{start, label, word, slot, filled}
-use Rattle.search.specs.Words.{Carries, standing}
-use Rattle.search.specs.Setting.{Setting}
+use Rattle.reaching.specs.Words.{Carries, standing}
+use Rattle.reaching.specs.Setting.{Setting}
 
 -- what is in one word and not in another
 in-one-only : (a b : Bool) → ((b or a) differs b) ≡ (a and isnt b)

@@ -1,22 +1,18 @@
--- What `search::try_forests` does: an edge that has tried the forests 1 to j tries the next, or passes over it where it is its own. Where the
+-- What `reaching::try_forests` does: an edge that has tried the forests 1 to j tries the next, or passes over it where it is its own. Where the
 -- search has ended, the later forests change nothing (`stays`).
 -- Assumes nothing.
 use mathlib.Core.Path.{_≡_, refl, sym, ap, _∙_, subst}
-use mathlib.Core.Logic.{_≢_}
 use mathlib.Core.List.{List}
-use Prim.Native.Nat.{ℕ, zero, suc, _+_, _≤_, _<_}
+use Prim.Native.Nat.{ℕ, zero, suc, _+_, _≤_}
 use native.Mathlib.Numerals.{add-one}
 use native.Mathlib.Omega.{arith}
-use lib.ListN.{length}
-use Rattle.rule.specs.Legal.{Design}
 use Rattle.rule.proofs.Tests.{by-eq}
 use Rattle.theory.specs.Search.{Waiting, Result, andThen, tryForest, tryForests}
 use Rattle.theory.specs.Search.Result.{found, going}
 use Rattle.theory.proofs.Search.Reached.{size, grows-refl, grows-trans}
-use Rattle.search.specs.declared.Outcome.{Outcome}
-use Rattle.search.specs.declared.Outcome.the-variants.{Found, Stuck}
-use Rattle.search.specs.Answers.{Comes, Answers, Trying, Further, After}
-use Rattle.search.proofs.Tried.{try-own}
+use Rattle.reaching.specs.declared.Tried.the-variants.{Free, Waits}
+use Rattle.reaching.specs.Trying.{Comes, Tells, Trying, After}
+use Rattle.reaching.proofs.Further.{try-own}
 
 -- a result that no later step changes stays
 pub stays : (upTo : ℕ → Result) (step : ℕ → Waiting → Result) → ((i : ℕ) → upTo (suc i) ≡ andThen (upTo i) (step i)) → (r : Result) (j l : ℕ) → j ≤ l
@@ -37,23 +33,23 @@ module _ {u v place n : ℕ} {root way edge queue from seen : List ℕ} (t : Try
   unfolding tryForests
   upTo-suc j = refl
 
-  pub none-tried : Answers (After t queue from seen) (upTo 0) (Stuck n)
+  pub none-tried : Tells (After t queue from seen) place (upTo 0) (Waits n)
   unfolding tryForests
   none-tried = record { waiting = t .w; is = refl; holds = (t .waits, record { state = t .state; grows = grows-refl (t .w) }) }
 
   -- where the search has ended, it has ended
-  pub found-stays : {P : Waiting → Type 0} (p i f last : ℕ) → f ≤ last → Answers P (upTo f) (Found p i) → Answers P (upTo last) (Found p i)
-  found-stays p i f last h a =
+  pub found-stays : {P : Waiting → Type 0} (i f last : ℕ) → f ≤ last → Tells P place (upTo f) (Free i) → Tells P place (upTo last) (Free i)
+  found-stays i f last h a =
       record {
         waiting = a .waiting;
-        is = stays upTo (λ j. tryForest (t .d) (t .forest) place (t .x) (suc j)) upTo-suc (found p i (a .waiting)) f last h (λ _ _. refl) (a .is);
+        is = stays upTo (λ j. tryForest (t .d) (t .forest) place (t .x) (suc j)) upTo-suc (found place i (a .waiting)) f last h (λ _ _. refl) (a .is);
         holds = a .holds;
       }
 
   pub all-tried : {P : Waiting → Type 0} {j last : ℕ} → j ≡ last → Comes P going (upTo j) → Comes P going (upTo last)
   all-tried {P} q = subst (λ (z : ℕ). Comes P going (upTo z)) q
 
-  module _ (j : ℕ) {queue′ from′ seen′ : List ℕ} {n′ : ℕ} (a : Answers (After t queue′ from′ seen′) (upTo j) (Stuck n′)) where
+  module _ (j : ℕ) {queue′ from′ seen′ : List ℕ} {n′ : ℕ} (a : Tells (After t queue′ from′ seen′) place (upTo j) (Waits n′)) where
     -- the edge waits on
     abbrev pub waits-on : Trying u v place n′ root way edge queue′ from′ seen′
     waits-on =
@@ -81,16 +77,16 @@ module _ {u v place n : ℕ} {root way edge queue from seen : List ℕ} (t : Try
     further : {queue″ from″ seen″ : List ℕ} (w : Waiting) → After waits-on queue″ from″ seen″ w → After t queue″ from″ seen″ w
     further w b = record { state = b .state; grows = grows-trans (t .w) (a .waiting) w (a .holds .1 .grows) (b .grows) }
 
-    pub own-passed : t .forest (t .x) ≡ j + 1 → Answers (After t queue′ from′ seen′) (upTo (j + 1)) (Stuck n′)
+    pub own-passed : t .forest (t .x) ≡ j + 1 → Tells (After t queue′ from′ seen′) place (upTo (j + 1)) (Waits n′)
     own-passed own =
         record { waiting = a .waiting; is = this-one ∙ try-own (t .d) (t .forest) place (t .x) (j + 1) (a .waiting) own; holds = a .holds }
 
-    pub next-found : {queue″ from″ seen″ : List ℕ} {p i : ℕ}
-        → Answers (After waits-on queue″ from″ seen″) (tryForest (t .d) (t .forest) place (t .x) (j + 1) (a .waiting)) (Found p i)
-        → Answers (After t queue″ from″ seen″) (upTo (j + 1)) (Found p i)
+    pub next-found : {queue″ from″ seen″ : List ℕ} {i : ℕ}
+        → Tells (After waits-on queue″ from″ seen″) place (tryForest (t .d) (t .forest) place (t .x) (j + 1) (a .waiting)) (Free i)
+        → Tells (After t queue″ from″ seen″) place (upTo (j + 1)) (Free i)
     next-found b = record { waiting = b .waiting; is = this-one ∙ b .is; holds = further (b .waiting) (b .holds) }
 
     pub next-tried : {queue″ from″ seen″ : List ℕ} {m : ℕ}
-        → Answers (After waits-on queue″ from″ seen″) (tryForest (t .d) (t .forest) place (t .x) (j + 1) (a .waiting)) (Stuck m)
-        → Answers (After t queue″ from″ seen″) (upTo (j + 1)) (Stuck m)
+        → Tells (After waits-on queue″ from″ seen″) place (tryForest (t .d) (t .forest) place (t .x) (j + 1) (a .waiting)) (Waits m)
+        → Tells (After t queue″ from″ seen″) place (upTo (j + 1)) (Waits m)
     next-tried b = record { waiting = b .waiting; is = this-one ∙ b .is; holds = (b .holds .0, further (b .waiting) (b .holds .1)) }

@@ -1,9 +1,9 @@
--- `search::try_forest`: what it asks and answers is said in OneForest.antt, over any design that the arrays stand for.
+-- `reaching::try_forest`: what it asks and answers is said in OneForest.antt, over any design that the arrays stand for.
 use borrow.Author.Needs.{needs}
 use native.Mathlib.Omega.{arith}
-use Rattle.search.proofs.OneForest.{few-places, ends-are, one-of-six, joined-then, free-then, free-answers, path-comes, joined-answers}
-use Rattle.search.proofs.try_forest.Statement.{statement}
-use Rattle.search.proofs.try_forest.Tie as tie
+use Rattle.reaching.proofs.OneForest.{few-places, ends-are, one-of-six, joined-then, free-then, free-answers, path-comes, joined-answers}
+use Rattle.reaching.proofs.try_forest.Statement.{statement}
+use Rattle.reaching.proofs.try_forest.Tie as tie
 
 joined-requires : tie.Need-joined-requires
 joined-requires c κs = (one-of-six (c .pre .0) (c .pre .1 .0), ends-are (c .pre .0))

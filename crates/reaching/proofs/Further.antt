@@ -2,22 +2,22 @@
 -- then. The queue holds the new edges behind the others, and the word of f has the slots on the path besides; the words of other forests
 -- stay, since no edge of theirs is on the path.
 -- Assumes nothing.
-use mathlib.Core.Path.{_≡_, refl, sym, ap, ap₂, _∙_, subst}
+use mathlib.Core.Path.{_≡_, sym, ap, ap₂, _∙_, subst}
 use mathlib.Core.Logic.{_≢_}
 use mathlib.Core.Bool.{Bool}
 use mathlib.Core.List.{List, _++_}
-use Prim.Native.Nat.{ℕ, suc, _+_, _-_, _≤_, _<_}
+use Prim.Native.Nat.{ℕ, _+_, _-_, _≤_, _<_}
 use native.Mathlib.Omega.{arith}
 use lib.Bits.{bitXor, bitOr}
 use lib.ListN.{length, getD, take, set, replicate, length-append, length-replicate, length-set}
 use lib.Seq.{getD-set-same, getD-set-other}
-use Rattle.rule.specs.Sets.{Is, _or_, _=?_, Set, In, count, numbers}
+use Rattle.rule.specs.Sets.{Is, _or_, In, count, numbers}
 use Rattle.rule.specs.Legal.{Design}
 use Rattle.rule.specs.Forests.{limit, inForest}
 use Rattle.rule.proofs.Tests.{is-false, eq-of, eq-is, by-eq}
 use Rattle.rule.proofs.Counting.{length-numbers}
-use Rattle.theory.specs.Joined.{spans, onPath}
-use Rattle.theory.specs.Search.{Waiting, edgeAt, Result, fresh, reach, pick, tryForest}
+use Rattle.theory.specs.Joined.{spans}
+use Rattle.theory.specs.Search.{Waiting, edgeAt, fresh, reach, pick, tryForest}
 use Rattle.theory.specs.Search.Result.{found, going}
 use Rattle.theory.proofs.Exchange.Step.{path-in}
 use Rattle.theory.proofs.Legal.Kept.{forest-is}
@@ -25,14 +25,13 @@ use Rattle.theory.proofs.Search.Reached.{size, Reached, Grows, reach-grows, rea
 use Rattle.words.specs.Bits.{bit}
 use Rattle.words.proofs.Bits.{bit-or}
 use Rattle.tables.specs.Tables.{word, slot, filled}
-use Rattle.search.specs.Filled.{Filled}
-use Rattle.search.specs.Words.{Came}
-use Rattle.search.specs.Setting.{Setting, Holds, State}
-use Rattle.search.specs.Answers.{Further}
-use Rattle.search.proofs.Filled.{filled-length, filled-front}
-use Rattle.search.proofs.Bits.{or-none}
-use Rattle.search.proofs.Bound.{few-wait}
-use Rattle.search.proofs.Paths.{on-path}
+use Rattle.reaching.specs.Words.{Came}
+use Rattle.reaching.specs.Setting.{Setting, Holds, State}
+use Rattle.reaching.specs.Trying.{Further}
+use Rattle.reaching.proofs.Laid.{laid-length, laid-front}
+use Rattle.reaching.proofs.Bits.{or-none}
+use Rattle.reaching.proofs.Bound.{few-wait}
+use Rattle.reaching.proofs.Paths.{on-path}
 
 -- ---- the model
 
@@ -89,13 +88,13 @@ module _ {d : Design} {forest : ℕ → ℕ} {root way who edge sizes : List ℕ
       record {
         queued =
             ap (λ (j : ℕ). take j queue′) next-size
-            ∙ filled-front (c .waits)
+            ∙ laid-front (c .waits)
             ∙ ap (λ (l : List ℕ). l ++ news) (state .holds .queued);
         reached =
             ap (λ (j : ℕ). take j from′) (next-size ∙ ap (λ (j : ℕ). size w + j) (sym (length-replicate (length news) place)))
-            ∙ filled-front (c .reached)
+            ∙ laid-front (c .reached)
             ∙ ap (λ (l : List ℕ). l ++ replicate (length news) place) (state .holds .reached);
-        places = (filled-length (c .waits) ∙ state .holds .places .0, filled-length (c .reached) ∙ state .holds .places .1);
+        places = (laid-length (c .waits) ∙ state .holds .places .0, laid-length (c .reached) ∙ state .holds .places .1);
       }
 
   module _ (hx : In (d .m) x) (hf : In 6 f) (spanned : Is (spans d (inForest forest f) x)) where

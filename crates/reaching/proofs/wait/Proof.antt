@@ -1,11 +1,11 @@
--- `search::wait`: at each turn the queue is to come to what it was to come to at first (`waited`), and there it takes the edge in.
+-- `reaching::wait`: at each turn the queue is to come to what it was to come to at first (`waited`), and there it takes the edge in.
 use borrow.Author.Needs.{needs}
 use mathlib.Core.Path.{_≡_, refl, sym, _∙_}
 use Prim.Native.Nat.{_≤_}
 use native.Mathlib.Omega.{arith}
-use Rattle.search.proofs.Waited.{waited, waited-moves, takes-in}
-use Rattle.search.proofs.wait.Statement.{statement}
-use Rattle.search.proofs.wait.Tie as tie
+use Rattle.reaching.proofs.Waited.{waited, waited-moves, takes-in}
+use Rattle.reaching.proofs.wait.Statement.{statement}
+use Rattle.reaching.proofs.wait.Tie as tie
 
 abbrev Inv-loop : tie.InvT-loop
 Inv-loop e first size queue₀ q₀ queue q = (first ≤ q) × (q ≤ size) × (waited e first q queue ≡ waited e first size queue₀)

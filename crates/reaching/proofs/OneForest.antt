@@ -1,30 +1,27 @@
--- What `search::try_forest` asks and answers: the labels tell whether forest f joins the ends of x, the word of its path carries the edges
+-- What `reaching::try_forest` asks and answers: the labels tell whether forest f joins the ends of x, the word of its path carries the edges
 -- that come to wait, and with them the model goes on; or it ends in f.
 -- Assumes nothing.
-use mathlib.Core.Path.{_≡_, refl, sym, ap, ap₂, _∙_, subst}
+use mathlib.Core.Path.{_≡_, sym, ap₂, _∙_, subst}
 use mathlib.Core.Logic.{_≢_}
 use mathlib.Core.Bool.{Bool, false, false≢true}
 use mathlib.Core.List.{List}
 use Prim.Native.Nat.{ℕ, _+_, _-_, _≤_, _<_}
 use native.Mathlib.Omega.{arith}
 use lib.Bits.{bitXor, bitOr}
-use lib.ListN.{length, getD, set}
+use lib.ListN.{getD, set}
 use Rattle.rule.specs.Sets.{Is, _=?_, In, count, numbers}
-use Rattle.rule.specs.Legal.{Design}
 use Rattle.rule.specs.Forests.{limit, inForest}
 use Rattle.theory.specs.Joined.{spans}
-use Rattle.theory.specs.Search.{Waiting, edgeAt, fresh, reach, tryForest}
-use Rattle.theory.specs.Search.Result.{found, going}
+use Rattle.theory.specs.Search.{fresh, reach, tryForest}
 use Rattle.theory.proofs.Legal.Kept.{limit-most}
 use Rattle.theory.proofs.Search.Reached.{size, grows-refl}
 use Rattle.tables.specs.Tables.{start, label, word}
-use Rattle.search.specs.declared.Outcome.{Outcome}
-use Rattle.search.specs.declared.Outcome.the-variants.{Found, Stuck}
-use Rattle.search.specs.Words.{Carries, standing, Coming, Came}
-use Rattle.search.specs.Answers.{Comes, Answers, Trying, Further, After}
-use Rattle.search.proofs.Held.{held-few}
-use Rattle.search.proofs.Paths.{joined-ends, carries-fresh}
-use Rattle.search.proofs.Tried.{try-joined, try-free, next-room, reached-further}
+use Rattle.reaching.specs.declared.Tried.the-variants.{Free, Waits}
+use Rattle.reaching.specs.Words.{Carries, standing, Coming, Came}
+use Rattle.reaching.specs.Trying.{Tells, Trying, After}
+use Rattle.reaching.proofs.Held.{held-few}
+use Rattle.reaching.proofs.Paths.{joined-ends, carries-fresh}
+use Rattle.reaching.proofs.Further.{try-joined, try-free, next-room, reached-further}
 
 module _ {u v place n : ℕ} {root way edge queue from seen : List ℕ} (t : Trying u v place n root way edge queue from seen) where
   pub waits-here : place < size (t .w)
@@ -55,7 +52,7 @@ module _ {u v place n : ℕ} {root way edge queue from seen : List ℕ} (t : Try
     free-then q not-so s = false≢true (sym not-so ∙ q ∙ joined-is ∙ s)
 
     pub free-answers : t .forest (t .x) ≢ f → ¬ (Is (spans (t .d) (inForest (t .forest) f) (t .x)))
-        → Answers (After t queue from seen) (tryForest (t .d) (t .forest) place (t .x) f (t .w)) (Found place f)
+        → Tells (After t queue from seen) place (tryForest (t .d) (t .forest) place (t .x) f (t .w)) (Free f)
     free-answers ne free =
         record { waiting = t .w; is = try-free (t .d) (t .forest) place (t .x) f (t .w) ne free; holds = record { state = t .state; grows = grows-refl (t .w) } }
 
@@ -81,7 +78,7 @@ module _ {u v place n : ℕ} {root way edge queue from seen : List ℕ} (t : Try
 
       pub joined-answers : {queue′ from′ : List ℕ} {r : ℕ} → t .forest (t .x) ≢ f
           → Came (numbers (fresh (t .d) (t .forest) (t .w) (t .x) f) (t .d .m)) n place queue from queue′ from′ r
-          → Answers (After t queue′ from′ (set seen (f - 1) (bitOr (getD seen (f - 1) 0) on))) (tryForest (t .d) (t .forest) place (t .x) f (t .w)) (Stuck r)
+          → Tells (After t queue′ from′ (set seen (f - 1) (bitOr (getD seen (f - 1) 0) on))) place (tryForest (t .d) (t .forest) place (t .x) f (t .w)) (Waits r)
       joined-answers {queue′ = queue′} {from′ = from′} {r = r} ne c =
           record {
             waiting = reach (t .d) (t .forest) place (t .x) f (t .w);

@@ -1,22 +1,22 @@
--- `search::try_forests`: after each turn the arrays hold what the model has when one forest more is tried; a free forest ends both.
+-- `reaching::try_forests`: after each turn the arrays hold what the model has when one forest more is tried; a free forest ends both.
 use borrow.Author.Needs.{needs}
 use mathlib.Core.Path.{_≡_, sym, _∙_, subst}
 use Prim.Native.Nat.{_+_, _-_, _≤_}
 use native.Mathlib.Omega.{arith}
 use Rattle.rule.specs.Forests.{limit}
 use Rattle.theory.specs.Search.{tryForests}
-use Rattle.search.specs.declared.Outcome.the-variants.{Stuck}
-use Rattle.search.specs.Answers.{Answers, Trying, After}
-use Rattle.search.proofs.AllForests.{none-tried, found-stays, all-tried, waits-on, own-passed, next-found, next-tried}
-use Rattle.search.proofs.try_forests.Statement.{statement}
-use Rattle.search.proofs.try_forests.Tie as tie
+use Rattle.reaching.specs.declared.Tried.the-variants.{Waits}
+use Rattle.reaching.specs.Trying.{Tells, Trying, After}
+use Rattle.reaching.proofs.AllForests.{none-tried, found-stays, all-tried, waits-on, own-passed, next-found, next-tried}
+use Rattle.reaching.proofs.try_forests.Statement.{statement}
+use Rattle.reaching.proofs.try_forests.Tie as tie
 
 -- the forests 1 to `tried` are tried, whatever design the arrays stand for
 abbrev Inv-loop : tie.InvT-loop
 Inv-loop own last u v place start root way edge queue₀ from₀ seen₀ n₀ tried₀ queue from seen n tried =
     (tried ≤ last)
     × ((t : Trying u v place start root way edge queue₀ from₀ seen₀) → limit (t .d) (t .x) ≡ last → t .forest (t .x) ≡ own
-    → Answers (After t queue from seen) (tryForests (t .d) (t .forest) place (t .x) tried (t .w)) (Stuck n))
+    → Tells (After t queue from seen) place (tryForests (t .d) (t .forest) place (t .x) tried (t .w)) (Waits n))
 
 abbrev μ-loop : tie.MeasureT-loop
 μ-loop own last u v place start root way edge queue₀ from₀ seen₀ n₀ tried₀ queue from seen n tried = last - tried
@@ -49,9 +49,9 @@ returns c t last own =
     let turn = c .before .before .before .before .before .before .before in
     let at = turn .before .before in
     let a = at .loop .inv .1 t last own in
-    found-stays t _ _ (at .loop .tried + 1) (at .before .args .last) (omega arith)
+    found-stays t _ (at .loop .tried + 1) (at .before .args .last) (omega arith)
     (next-found t (at .loop .tried) a
-    (subst (Answers _ _) (c .before .t .given .1)
+    (subst (Tells _ _ _) (c .before .t .given .1)
     (c .before .before .before .try-forest .ensures (waits-on t (at .loop .tried) a) (omega arith) (λ q. turn .if1 .left (sym q ∙ own)))))
 
 enum-known-t-2 : tie.Need-enum-known-t-2 Inv-loop μ-loop
@@ -68,7 +68,7 @@ loop-again-2 c =
       λ t last own.
           let a = at .loop .inv .1 t last own in
           next-tried t (at .loop .tried) a
-          (subst (Answers _ _) (c .before .t2 .given .1)
+          (subst (Tells _ _ _) (c .before .t2 .given .1)
           (c .before .before .before .try-forest .ensures (waits-on t (at .loop .tried) a) (omega arith) (λ q. turn .if1 .left (sym q ∙ own)))),
     )
 

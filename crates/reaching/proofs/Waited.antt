@@ -11,13 +11,13 @@ use Prim.Native.Nat.{ℕ, zero, suc, _+_, _-_, _≤_, _<_}
 use native.Mathlib.Omega.{arith}
 use lib.ListN.{length, getD, take, drop, set, length-append, List·getD-append}
 use lib.Seq.{append-snoc, set-append-seam, getD-append-seam, getD-append-add, drop-cons, length-take-le}
-use Rattle.rule.specs.Sets.{Is, _and_, isnt, _<?_, Set, In, _with_, only-if, numbers}
-use Rattle.rule.proofs.Tests.{cases, is-false, and-make, and-l, and-r, isnt-make, isnt-not, lt-of, lt-is, by-eq, by-le, put-other, with-self, with-old}
+use Rattle.rule.specs.Sets.{Is, _and_, isnt, _<?_, Set, In, _with_, numbers}
+use Rattle.rule.proofs.Tests.{cases, is-false, and-make, and-l, and-r, isnt-make, isnt-not, lt-of, lt-is, by-eq, put-other, with-self, with-old}
 use Rattle.rule.proofs.Counting.{count-with, numbers-eq, length-numbers}
 use Rattle.theory.proofs.Numbers.Listing.{numbers-at}
-use Rattle.search.specs.Filled.{Filled, TakesIn}
-use Rattle.search.proofs.Filled.{filled-length}
-use Rattle.search.proofs.Numbers.{numbers-in, numbers-out}
+use Rattle.reaching.specs.Laid.{Laid, TakesIn}
+use Rattle.reaching.proofs.Laid.{laid-length}
+use Rattle.reaching.proofs.Numbers.{numbers-in, numbers-out}
 
 -- ---- the loop
 
@@ -117,9 +117,9 @@ module _ (e : ℕ) (s : Set) (new : ¬ (Is (s e))) (front : List ℕ) where
       ∙ ap (λ (l : List ℕ). l ++ rest) (sym (behind-out (s with e) m (λ t. none (sym (put-other s e true (suc m) (λ q. ne (sym q))) ∙ t))))))
 
 -- an edge that is none of them waits among the numbers of a set
-filled-waited : (old now : List ℕ) (first e m : ℕ) (s : Set) → Filled old first (numbers s m) now → first + length (numbers s m) < length old → In m e
-    → ¬ (Is (s e)) → Filled old first (numbers (s with e) m) (waited e first (first + length (numbers s m)) now)
-filled-waited old now first e m s f room h new =
+laid-waited : (old now : List ℕ) (first e m : ℕ) (s : Set) → Laid old first (numbers s m) now → first + length (numbers s m) < length old → In m e
+    → ¬ (Is (s e)) → Laid old first (numbers (s with e) m) (waited e first (first + length (numbers s m)) now)
+laid-waited old now first e m s f room h new =
     let n = first + length (numbers s m) in
     let long : length (take first old) ≡ first = length-take-le first old (omega arith) in
     let one-more : length (numbers (s with e) m) ≡ suc (length (numbers s m)) =
@@ -127,9 +127,9 @@ filled-waited old now first e m s f room h new =
     let seam : suc n ≡ first + length (numbers (s with e) m) = omega arith in
     record {
       room = omega arith;
-      written =
+      over =
           ap₂ (λ (j : ℕ) (l : List ℕ). waited e first j l) (sym (length-append (take first old) (numbers s m) ∙ ap (λ (z : ℕ). z + length (numbers s m)) long))
-          (f .written ∙ ap (λ (l : List ℕ). take first old ++ numbers s m ++ l) (drop-cons old n 0 room))
+          (f .over ∙ ap (λ (l : List ℕ). take first old ++ numbers s m ++ l) (drop-cons old n 0 room))
           ∙ subst (λ (z : ℕ). waited e z (length (take first old ++ numbers s m)) (take first old ++ numbers s m ++ getD old n 0 ∷ drop (suc n) old) ≡ take first old ++ numbers (s with e) m ++ drop (suc n) old) long
           (waited-numbers e s new (take first old) m (getD old n 0) (drop (suc n) old) h)
           ∙ ap (λ (z : ℕ). take first old ++ numbers (s with e) m ++ drop z old) seam;
@@ -142,6 +142,6 @@ takes-in e first size q before queue same stops room =
     record {
       in-order =
           λ old s m h new at f.
-          subst (Filled old first (numbers (s with e) m)) (ap (λ (n : ℕ). waited e first n before) (sym at) ∙ sym same ∙ waited-stops e first q queue stops)
-          (filled-waited old before first e m s f (omega (arith, filled-length f)) h new);
+          subst (Laid old first (numbers (s with e) m)) (ap (λ (n : ℕ). waited e first n before) (sym at) ∙ sym same ∙ waited-stops e first q queue stops)
+          (laid-waited old before first e m s f (omega (arith, laid-length f)) h new);
     }
