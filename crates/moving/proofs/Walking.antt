@@ -5,14 +5,13 @@
 -- proofs/Exchange/Walk.antt), which the tables follow by a swap; the end puts x into the forest found.
 -- Assumes nothing.
 use mathlib.Core.Path.{_≡_, refl, sym, ap, ap₂, _∙_, subst, subst₂}
-use mathlib.Core.Logic.{_≢_}
-use mathlib.Core.List.{List, [], _∷_}
+use mathlib.Core.List.{List, _∷_}
 use Prim.Native.Nat.{ℕ, suc, _-_, _≤_, _<_}
 use native.Mathlib.Omega.{arith}
 use lib.ListN.{length, getD, set}
 use lib.ListN.{length-set}
 use Rattle.rule.specs.Sets.{Is, In, put, at}
-use Rattle.rule.specs.Legal.{Design, k}
+use Rattle.rule.specs.Legal.{k}
 use Rattle.rule.specs.Forests.{limit, inForest, Arranged}
 use Rattle.rule.proofs.Tests.{put-same, put-other, put-put, put-id}
 use Rattle.rule.proofs.Places.{at-suc, at-set}
@@ -25,7 +24,7 @@ use Rattle.theory.proofs.Legal.Kept.{limit-most}
 use Rattle.tables.specs.Tables.{Tabled}
 use Rattle.planting.specs.Calls.{Sized, Addable, Added, Swapped}
 use Rattle.planting.proofs.Few.{room-left}
-use Rattle.moving.specs.Moves.{Exchangeable, Exchanged, Drawn, Replanting, Replanted, backward}
+use Rattle.moving.specs.Moves.{Exchangeable, Exchanged, Replanting, Replanted, backward}
 
 -- ---- numbers that stand at a place counted from 1
 

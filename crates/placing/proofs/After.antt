@@ -1,33 +1,26 @@
 -- The book after an edge has been added: its design is the design of the book before with the offered edge, and it is sound where its
 -- forests are an arrangement.
 -- Assumes nothing.
-use mathlib.Core.Path.{_≡_, refl, sym, ap, _∙_, subst, subst₂}
+use mathlib.Core.Path.{_≡_, sym, ap, _∙_, subst, subst₂}
 use mathlib.Core.Logic.{_≢_}
-use Prim.Native.Nat.{ℕ, zero, suc, _≤_, _<_}
+use Prim.Native.Nat.{ℕ, _<_}
 use native.Mathlib.Omega.{arith}
-use lib.ListN.{length}
 use Rattle.rule.specs.declared.Book.{Book}
-use Rattle.rule.specs.Sets.{Is, _=?_, Set, In, put, at}
+use Rattle.rule.specs.Sets.{_=?_, Set, In, put, at}
 use Rattle.rule.specs.Legal.{Design}
 use Rattle.rule.specs.Forests.{Arranged}
 use Rattle.rule.specs.Books.{designOf, forestOf, offered, plus, next, ProfileRange, BodiesRange, ColourRange, Sound}
 use Rattle.rule.specs.Calls.{Adds}
 use Rattle.rule.proofs.Tests.{in-split, put-same, put-other, put-map}
 use Rattle.rule.proofs.Places.{at-set}
+use Rattle.placing.specs.Take.{Full}
 use Rattle.theory.proofs.Legal.Sound.{sound-head, sound-edge, EndsAndColour, arranged-sound}
 
--- a book's arrays have 512 places
-pub record Full (B : Book) : Type 0 where
-  pub ones : length (B .ones) ≡ 512
-  pub others : length (B .others) ≡ 512
-  pub colours : length (B .colours) ≡ 512
-  pub forests : length (B .forests) ≡ 512
-
 module _ (before after : Book) (u v colour : ℕ) (adds : Adds before after u v colour) (full : Full before) (room : before .count < 512) where
-  one-after : at (after .ones) ≡ put (at (before .ones)) (next before) u
+  pub one-after : at (after .ones) ≡ put (at (before .ones)) (next before) u
   one-after = ap at (adds .ones) ∙ at-set (before .ones) (before .count) u (omega (arith, full .ones))
 
-  other-after : at (after .others) ≡ put (at (before .others)) (next before) v
+  pub other-after : at (after .others) ≡ put (at (before .others)) (next before) v
   other-after = ap at (adds .others) ∙ at-set (before .others) (before .count) v (omega (arith, full .others))
 
   colour-after : at (after .colours) ≡ put (at (before .colours)) (next before) colour

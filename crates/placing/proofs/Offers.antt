@@ -1,25 +1,25 @@
 -- What an offer that is not refused leaves behind: a sound book, in which every edge that was kept is kept, and a grown book where the
 -- book was grown.
 -- Assumes nothing.
-use mathlib.Core.Path.{_≡_, refl, sym, ap, _∙_, subst}
-use mathlib.Core.Logic.{_↔_, _≢_}
+use mathlib.Core.Path.{_≡_, sym, ap, _∙_, subst}
 use mathlib.Core.List.{List}
-use Prim.Native.Nat.{ℕ, suc, _≤_, _<_}
+use Prim.Native.Nat.{ℕ, _<_}
 use native.Mathlib.Omega.{arith}
 use Rattle.rule.specs.declared.Book.{Book}
-use Rattle.rule.specs.Sets.{Is, Set, In, put, at}
+use Rattle.rule.specs.Sets.{In, put, at}
 use Rattle.rule.specs.Legal.{Design, Grown}
-use Rattle.rule.specs.Forests.{keptIn, Arranged}
-use Rattle.rule.specs.Books.{designOf, forestOf, keptOf, offered, plus, next, Sound, GrownBook}
-use Rattle.rule.specs.Calls.{Adds, OfferKept, OfferImplied}
+use Rattle.rule.specs.Forests.{Arranged}
+use Rattle.rule.specs.Books.{designOf, forestOf, keptOf, offered, next, Sound, GrownBook}
+use Rattle.rule.specs.Calls.{OfferKept, OfferImplied}
 use Rattle.rule.proofs.Tests.{same-test, put-same, put-other}
 use Rattle.rule.proofs.Counting.{Agree}
 use Rattle.rule.proofs.Places.{at-set}
-use Rattle.theory.proofs.Legal.Kept.{kept-make, kept-has, kept-most}
+use Rattle.theory.proofs.Legal.Kept.{kept-make, kept-has}
 use Rattle.theory.proofs.Legal.Sound.{sound-arranged}
 use Rattle.theory.proofs.Laws.Grown.{grown-longer}
 use Rattle.theory.proofs.Groups.Longer.{arranged-longer}
-use Rattle.placing.proofs.After.{Full, design-after, sound-after}
+use Rattle.placing.proofs.After.{design-after, sound-after}
+use Rattle.placing.specs.Take.{Full}
 
 module _ (before after : Book) (u v colour : ℕ) (list listed : List ℕ) (count : ℕ) (full : Full before) where
   -- ---- the edge is kept

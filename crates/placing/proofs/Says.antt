@@ -6,14 +6,14 @@
 use mathlib.Core.Path.{_≡_, refl, sym, ap, _∙_, subst}
 use mathlib.Core.Logic.{_↔_, _≢_}
 use mathlib.Core.List.{List, [], _∷_}
-use Prim.Native.Nat.{ℕ, suc, _≤_, _<_}
+use Prim.Native.Nat.{ℕ, suc, _≤_}
 use native.Mathlib.Omega.{arith}
 use lib.ListN.{length}
 use Rattle.rule.specs.declared.Book.{Book}
 use Rattle.rule.specs.Sets.{isnt, _=?_, Set, In, _without_, numbers}
 use Rattle.rule.specs.Legal.{Design, Ends, Keeps, Implies, Circuit}
 use Rattle.rule.specs.Forests.{Arranged, moved}
-use Rattle.rule.specs.Books.{designOf, forestOf, keptOf, offered, plus, next, Sound}
+use Rattle.rule.specs.Books.{designOf, forestOf, offered, plus, next, Sound}
 use Rattle.rule.specs.Calls.{KeepsIt, ImpliesIt, Filled}
 use Rattle.rule.proofs.Counting.{count-eq}
 use Rattle.theory.specs.Exchange.{Each, Distinct, end, Free, shifted}
@@ -25,12 +25,9 @@ use Rattle.theory.proofs.Exchange.Moved.{shift-moves}
 use Rattle.theory.proofs.Search.Outcome.{found-start, found-free, found-arranged, found-kept, stuck-implied}
 use Rattle.theory.proofs.Search.Circuit.{circuit-list}
 use Rattle.theory.proofs.Laws.Plus.{plus-ends}
-use Rattle.theory.proofs.Groups.Longer.{unplacedNew, phi-old, phi-new, arranged-longer, kept-longer}
+use Rattle.theory.proofs.Groups.Longer.{phi-old, phi-new, arranged-longer, kept-longer}
 use Rattle.theory.proofs.Legal.Sound.{sound-ends, sound-arranged}
-
--- the forests of a book, and the offered edge in none
-abbrev pub forestsFor : Book → ℕ → ℕ
-forestsFor B = unplacedNew (designOf B) (forestOf B)
+use Rattle.placing.specs.Seek.{forestsFor}
 
 -- edges of 1 to m + 1 other than the last are edges of 1 to m
 each-earlier : (m : ℕ) (l : List ℕ) → Each (In (suc m)) l → Each (λ z. z ≢ suc m) l → Each (In m) l
@@ -53,6 +50,7 @@ module _ (B : Book) (u v colour : ℕ) (sound : Sound B) (hu : In (B .n) u) (hv 
   offered-ends = plus-ends (designOf B) u v colour (sound-ends B sound) hu hv
 
   pub offered-arranged : Arranged (offered B u v colour) (forestsFor B)
+  unfolding designOf
   offered-arranged = arranged-longer (designOf B) u v colour (forestOf B) (sound-arranged B sound)
 
   pub offered-last : In (offered B u v colour .m) (next B)
@@ -75,7 +73,7 @@ module _ (B : Book) (u v colour : ℕ) (sound : Sound B) (hu : In (B .n) u) (hv 
     after : ℕ → ℕ
     after = shifted phi (next B ∷ pathTo w p) i
 
-    old-path : Each (In (B .count)) (pathTo w p)
+    pub old-path : Each (In (B .count)) (pathTo w p)
     unfolding plus designOf
     old-path = each-earlier (B .count) (pathTo w p) (start .edges) (distinct-away (next B) (pathTo w p) (start .distinct))
 

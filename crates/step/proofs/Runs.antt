@@ -12,7 +12,7 @@ use Rattle.rule.specs.Books.{designOf, ProfileRange, BodiesRange, HeadRule, Obe
 use Rattle.rule.specs.Calls.{newBook, Adds, Offer}
 use Rattle.step.specs.Runs.{Run}
 use Rattle.step.specs.Runs.Run.{opened, offered}
-use Rattle.placing.proofs.After.{Full}
+use Rattle.placing.specs.Take.{Full}
 use Rattle.placing.proofs.Offers.{kept-sound, kept-grown, implied-sound, implied-grown}
 
 -- sound, grown, and whole

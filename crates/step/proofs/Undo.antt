@@ -4,23 +4,23 @@
 -- Such a book is grown (Runs.antt), so the laws are those of grown designs (crate theory); an offer that is not refused makes the design
 -- with one edge more (After.antt).
 -- Assumes nothing.
-use mathlib.Core.Path.{_≡_, refl, sym, ap, _∙_, subst}
-use mathlib.Core.Logic.{_↔_, _≢_}
+use mathlib.Core.Path.{_≡_, sym, subst}
+use mathlib.Core.Logic.{_↔_}
 use mathlib.Core.List.{List}
-use Prim.Native.Nat.{ℕ, _≤_, _<_}
+use Prim.Native.Nat.{ℕ}
 use Rattle.rule.specs.declared.Book.{Book}
 use Rattle.rule.specs.declared.Answer.{Answer}
 use Rattle.rule.specs.declared.Answer.the-variants.{Kept, Implied, Refused}
-use Rattle.rule.specs.Sets.{Set, In}
+use Rattle.rule.specs.Sets.{In}
 use Rattle.rule.specs.Legal.{Design, Grown}
 use Rattle.rule.specs.Figures.{freedom}
-use Rattle.rule.specs.Books.{designOf, keptOf, offered, plus, GrownBook}
+use Rattle.rule.specs.Books.{designOf, keptOf, plus}
 use Rattle.rule.specs.Calls.{Offer, Question}
 use Rattle.theory.specs.Order.{Renumbered, ImpliedBy}
 use Rattle.theory.proofs.Theorems.{order-freedom, order-implies, more-implied, implied-adds-none, exchange-law}
 use Rattle.theory.proofs.Legal.Sound.{sound-ends}
 use Rattle.step.specs.Runs.{Run, BookImplies}
-use Rattle.placing.proofs.After.{Full, design-after}
+use Rattle.placing.proofs.After.{design-after}
 use Rattle.step.proofs.Runs.{Grew, run-grew, offer-grew}
 
 -- ---- a question says what a book implies

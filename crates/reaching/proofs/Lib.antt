@@ -1,0 +1,11 @@
+pub mod Laid
+pub mod Held
+pub mod Numbers
+pub mod Waited
+pub mod Bits
+pub mod Coming
+pub mod Bound
+pub mod Paths
+pub mod Further
+pub mod OneForest
+pub mod AllForests

@@ -1,0 +1,4 @@
+pub mod Laid
+pub mod Words
+pub mod Setting
+pub mod Trying

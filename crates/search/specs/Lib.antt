@@ -1,0 +1,4 @@
+pub mod Given
+pub mod Answers
+pub mod Ends
+pub mod Marks

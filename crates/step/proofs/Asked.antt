@@ -1,0 +1,96 @@
+-- What comes of the checks and of the search, in the words of the contracts: a refusal is handed on, and what a search says of an edge
+-- is what a question answers.
+-- Assumes nothing.
+use mathlib.Core.Path.{_≡_, refl, sym, _∙_, ap, subst}
+use mathlib.Core.Logic.{⊎-elim}
+use mathlib.Core.List.{List, _∷_}
+use Prim.Native.Nat.{ℕ, suc, _<_}
+use native.Mathlib.Omega.{arith}
+use Rattle.rule.specs.declared.Book.{Book}
+use Rattle.rule.specs.declared.Answer.{Answer}
+use Rattle.rule.specs.declared.Answer.the-variants.{Kept, Implied}
+use Rattle.rule.specs.declared.Reason.{Reason}
+use Rattle.rule.specs.Reasons.{Check, Pass, offerChecks, questionChecks}
+use Rattle.rule.specs.Sets.{In}
+use Rattle.rule.specs.Books.{next, Sound, ColourRange}
+use Rattle.rule.specs.Calls.{KeepsIt, ImpliesIt, Offer, Question}
+use Rattle.theory.specs.Exchange.{shifted}
+use Rattle.theory.specs.Search.{pathTo}
+use Rattle.theory.proofs.Legal.Sound.{sound-head}
+use Rattle.book.specs.declared.Checked.{Checked}
+use Rattle.book.specs.Checks.{Found}
+use Rattle.placing.specs.declared.Head.{Head}
+use Rattle.placing.specs.Take.{longer}
+use Rattle.placing.specs.Seek.{bookOf, forestsFor, Seekable, Ends, Fails}
+use Rattle.placing.proofs.Says.{found-says, stuck-says}
+use Rattle.step.specs.Answers.{answerOf, Askable}
+
+-- ---- the checks
+
+pub passed : (checks : List Check) (more : Type 0) (c : Checked) → c ≡ Checked.Fine → Found checks more c → Pass checks × more
+passed checks more c q f = subst (Found checks more) q f
+
+module _ (B : Book) (u v colour : ℕ) (list : List ℕ) (more : Type 0) (c : Checked) (reason : Reason) (q : c ≡ Checked.Refused reason) (answer : Answer)
+    (handed : answer ≡ answerOf c) where
+  is-refused : answer ≡ Answer.Refused reason
+  is-refused = handed ∙ ap answerOf q
+
+  pub offer-refused : Found (offerChecks B u v colour list) more c → Offer B B u v colour list list answer
+  offer-refused f = subst (Offer B B u v colour list list) (sym is-refused) (subst (Found (offerChecks B u v colour list) more) q f, refl, refl)
+
+  pub question-refused : Found (questionChecks B u v colour list) more c → Question B u v colour list list answer
+  question-refused f = subst (Question B u v colour list list) (sym is-refused) (subst (Found (questionChecks B u v colour list) more) q f, refl)
+
+-- ---- the search
+
+module _ (B : Book) (u v colour : ℕ) {list root way edge : List ℕ} (a : Askable B u v colour list root way edge) where
+  pub asks : Seekable B u v root way edge
+  asks =
+      record {
+        sound = a .checked .0;
+        one = a .checked .1 .1 .0 .0;
+        other = a .checked .1 .1 .0 .1;
+        who = a .who;
+        size = a .size;
+        tabled = a .tabled;
+      }
+
+  pub answers-kept : (path listed : List ℕ) (n f : ℕ) → Ends B u v colour path n f → listed ≡ list → Question B u v colour list listed (Kept n)
+  answers-kept path listed n f e same =
+      let s = asks in
+      record {
+        checked = a .checked;
+        forest = shifted (forestsFor B) (next B ∷ pathTo (e .waiting) (e .place)) f;
+        says =
+            subst (KeepsIt B u v colour (shifted (forestsFor B) (next B ∷ pathTo (e .waiting) (e .place)) f)) (sym (e .counts))
+            (found-says B u v colour (s .sound) (s .one) (s .other) (e .place) f (e .waiting) (e .is-found));
+        unwritten = same;
+      }
+
+  pub answers-implied : (listed : List ℕ) (n : ℕ) → Fails B u v colour list listed n → Question B u v colour list listed (Implied n)
+  answers-implied listed n f =
+      let s = asks in
+      record {
+        checked = a .checked;
+        says =
+            subst (ImpliesIt B u v colour list listed) (sym (f .counts))
+            (stuck-says B u v colour (s .sound) (s .one) (s .other) (f .waiting) (f .is-stuck) list listed (f .fills));
+      }
+
+-- ---- the book after an offer
+
+pub counted : (B : Book) (head : Head) (ones others colours forests : List ℕ) (u v colour : ℕ) (list listed : List ℕ) (answer : Answer) (m : ℕ)
+    → m ≡ suc (head .count) → Offer B (bookOf (longer head) ones others colours forests) u v colour list listed answer
+    → Offer B (bookOf (record { a = head .a; b = head .b; n = head .n; count = m }) ones others colours forests) u v colour list listed answer
+counted B head ones others colours forests u v colour list listed answer m q o =
+    subst
+    (λ (z : ℕ). Offer B (bookOf (record { a = head .a; b = head .b; n = head .n; count = z }) ones others colours forests) u v colour list listed answer)
+    (sym q) o
+
+-- ---- the numbers of an edge that passed
+
+pub small-body : (B : Book) (u : ℕ) → Sound B → In (B .n) u → u < 256
+small-body B u sound h = omega (arith, h .high, sound-head B sound .bodies .high)
+
+pub small-colour : (colour : ℕ) → ColourRange colour → colour < 256
+small-colour colour h = ⊎-elim (λ q. omega arith) (λ q. omega arith) h

@@ -1,0 +1,29 @@
+-- `step::taken`: the book taken apart, the edge taken (crate placing), and a book put together.
+use borrow.Author.Needs.{needs}
+use mathlib.Core.Path.{refl}
+use native.Mathlib.Omega.{arith}
+use Rattle.step.proofs.Asked.{counted}
+use Rattle.step.proofs.taken.Statement.{statement}
+use Rattle.step.proofs.taken.Tie as tie
+
+take-requires : tie.Need-take-requires
+take-requires c κs = (refl, refl, refl, c .before .before .before .before .before .before .before .before .before .before .before .before .before .before .before .before .before .before .pre)
+
+add-t35 : tie.Need-add-t35
+add-t35 c =
+    let start = c .before .before .before .before .before .before .before .before .before .before .before .before .before .before .before .before .before .before .before .before .before .before in
+    let few = start .pre .checked .1 .1 .1 .1 .1 .0 in
+    search (needs, few)
+
+same-length : tie.Need-same-length
+same-length c = search needs
+
+returns : tie.Need-returns
+returns c =
+    let take = c .before .before .before in
+    let start = take .before .before .before .before .before .before .before .before .before .before .before .before .before .before .before .before .before .before .before in
+    counted (start .args .book) (record { a = start .args .book .a; b = start .args .book .b; n = start .args .book .n; count = start .args .book .count }) _ _ _ _ (start .args .u) (start .args .v)
+    (start .args .colour) _ _ (take .take .result) _ (omega arith) (take .take .ensures .3 (start .pre) .offer)
+
+pub taken-spec : {M : Type 1} → statement M
+taken-spec = tie.close (tie.spec take-requires add-t35 same-length returns)
