@@ -1,0 +1,4 @@
+pub mod Keys
+pub mod Reads
+pub mod Reports
+pub mod Steps
