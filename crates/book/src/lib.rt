@@ -47,7 +47,7 @@ pub struct Opened {
 }
 
 // A book with this head, and zeros in every edge place.
-fn new_book(a: u8, b: u8, n: u8) -> Book
+pub fn new_book(a: u8, b: u8, n: u8) -> Book
     ensures { λ r. ⌜ r ≡ newBook a b n ⌝ }
 {
     let zeros = [0u8; 512];
