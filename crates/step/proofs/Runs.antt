@@ -37,7 +37,7 @@ no-edges : (a b n : ℕ) → newBook a b n .count ≡ 0
 unfolding newBook
 no-edges a b n = refl
 
-new-grew : (a b n : ℕ) → ProfileRange a b → BodiesRange n → Grew (newBook a b n)
+pub new-grew : (a b n : ℕ) → ProfileRange a b → BodiesRange n → Grew (newBook a b n)
 unfolding Sound Obeys designOf
 new-grew a b n profile bodies = record { sound = sound; grown = λ e h. absurd (omega (arith, h .low, h .high, no-edges a b n)); full = new-full a b n }
   where
