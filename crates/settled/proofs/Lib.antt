@@ -1,2 +1,4 @@
 pub mod Reading
 pub mod Same
+pub mod Circuits
+pub mod Lines
