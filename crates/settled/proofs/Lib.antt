@@ -4,3 +4,6 @@ pub mod Circuits
 pub mod Lines
 pub mod Stepping
 pub mod Calls
+pub mod Texts
+pub mod Ranges
+pub mod Trips
