@@ -7,3 +7,4 @@ pub mod Calls
 pub mod Texts
 pub mod Ranges
 pub mod Trips
+pub mod Theorems

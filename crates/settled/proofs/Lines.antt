@@ -1,9 +1,10 @@
--- A line of a report or of a certificate is determined: whatever the circuits are taken among, no two lists of bytes are line i.
+-- A line of a report or of a certificate is determined: whatever the circuits are taken among, no two lists of bytes are line i. And past the
+-- number of lines there is none.
 --
 -- Circuits and group lists are determined (crate rule). The parts of a report lie one behind the other: which part line i is of is told
 -- by the number of lines from the first part's end to it, and so for a certificate.
 -- Assumes nothing.
-use mathlib.Core.Path.{_≡_, refl, sym, ap, _∙_, subst}
+use mathlib.Core.Path.{_≡_, sym, ap, _∙_, subst}
 use mathlib.Core.Logic.{_⊎_, inl, inr}
 use mathlib.Core.List.{List, [], _∷_, _++_}
 use Prim.Native.Nat.{ℕ, zero, suc, _+_, _-_, _≤_, _<_}
@@ -12,13 +13,13 @@ use Rattle.rule.specs.declared.Book.{Book}
 use Rattle.rule.specs.Sets.{Set, In}
 use Rattle.rule.specs.Legal.{Design}
 use Rattle.rule.specs.Figures.{freedom, dropped, verdict}
-use Rattle.rule.specs.Books.{designOf, forestOf, keptOf}
+use Rattle.rule.specs.Books.{designOf}
 use Rattle.rule.proofs.Determined.{circuit-determined, groups-determined as group-list-determined}
 use Rattle.text.specs.Lines.{LF, line, key-a, key-b, key-bodies, key-edges}
 use Rattle.text.specs.Sheets.{edgeText}
 use Rattle.pages.specs.Keys.{key-implied, key-free, key-dropped, key-verdict, key-groups, wordOf}
 use Rattle.pages.specs.Reads.{edgeOf}
-use Rattle.pages.specs.Reports.{ImpliedLine, EdgeLine, GroupsLine, ReportLine, edge, free, drops, judged, grouped, ForestLine, CertificateLine, profile-a, profile-b, bodies, edges, forest}
+use Rattle.pages.specs.Reports.{ImpliedLine, EdgeLine, GroupsLine, ReportLine, edge, free, drops, judged, grouped, ForestLine, CertificateLine, profile-a, profile-b, bodies, edges, forest, certificateLength}
 
 -- no two lists of bytes have it
 abbrev pub Determined : (List ℕ → Type 0) → Type 0
@@ -79,6 +80,13 @@ module _ (d : Design) (kept : Set) (among : ℕ → Set) where
   pub report-line-determined : (i : ℕ) → Determined (ReportLine d kept among i)
   report-line-determined i x y p q = part-determined i (suc i - d .m) x y (part-of i x p) (part-of i y q)
 
+  pub report-line-within : {i : ℕ} {bytes : List ℕ} → ReportLine d kept among i bytes → i < d .m + 4
+  report-line-within (edge h l) = omega arith
+  report-line-within (free h l) = omega arith
+  report-line-within (drops h l) = omega arith
+  report-line-within (judged h l) = omega arith
+  report-line-within (grouped h l) = omega arith
+
 -- ---- the certificate
 
 module _ (B : Book) (among : ℕ → Set) where
@@ -93,6 +101,7 @@ module _ (B : Book) (among : ℕ → Set) where
   behind-determined j x y (inr p) (inl q) = absurd (omega (arith, p .0, q .0))
   behind-determined j x y (inr p) (inr q) = forest-determined B among (suc j - B .count) x y (p .1) (q .1)
 
+  -- line i
   abbrev Piece : ℕ → List ℕ → Type 0
   Piece zero bytes = bytes ≡ line key-a (B .a ∷ [])
   Piece (suc zero) bytes = bytes ≡ line key-b (B .b ∷ [])
@@ -130,3 +139,11 @@ module _ (B : Book) (among : ℕ → Set) where
 
   pub certificate-line-determined : (i : ℕ) → Determined (CertificateLine B among i)
   certificate-line-determined i x y p q = piece-determined i x y (piece-of i x p) (piece-of i y q)
+
+  pub certificate-line-within : {i : ℕ} {bytes : List ℕ} → CertificateLine B among i bytes → i < certificateLength B
+  certificate-line-within (profile-a h l) = omega arith
+  certificate-line-within (profile-b h l) = omega arith
+  certificate-line-within (bodies h l) = omega arith
+  certificate-line-within (edges h l) = omega arith
+  certificate-line-within (edge e r h l) = omega arith
+  certificate-line-within (forest e r h l) = omega arith

@@ -91,6 +91,9 @@ stored f edges e {old} {new} {k} {j} w room store more =
       fills = store ∙ next .fills ∙ ap (λ (l : List ℕ). l ++ drop (length l) zeros) (sym said);
     }
 
+drop-more : (l : List ℕ) (k : ℕ) → drop (suc k) l ≡ drop 1 (drop k l)
+drop-more l k = ap (λ (i : ℕ). drop i l) (sym (add-one k)) ∙ sym (drop-drop 1 k l)
+
 offers-hold : {a b n : ℕ} {edges : List Edge} {B : Book} → Offers (newBook a b n) edges B → Holds a b n edges B
 offers-hold {a} {b} {n} none = new-holds a b n
 offers-hold {B = B} (then {before} {edges = edges} e list listed answer run pass offer) =
@@ -108,12 +111,11 @@ offers-hold {B = B} (then {before} {edges = edges} e list listed answer run pass
       past =
           ap (λ (k : ℕ). drop k (B .forests)) (adds .count)
           ∙ takes .1
-          ∙ drop-past (before .forests) (before .count) (h .past)
+          ∙ drop-more (before .forests) (before .count)
+          ∙ ap (drop 1) (h .past)
+          ∙ sym (drop-more zeros (before .count))
           ∙ ap (λ (k : ℕ). drop k zeros) (sym (adds .count));
     }
-  where
-    drop-past : (l : List ℕ) (k : ℕ) → drop k l ≡ drop k zeros → drop (suc k) l ≡ drop (suc k) zeros
-    drop-past l k q = ap (λ (i : ℕ). drop i l) (sym (add-one k)) ∙ sym (drop-drop 1 k l) ∙ ap (drop 1) q ∙ drop-drop 1 k zeros ∙ ap (λ (i : ℕ). drop i zeros) (add-one k)
 
 pub reads-hold : {text : List ℕ} {B : Book} (r : Reads text B) → Holds (r .sheet .a) (r .sheet .b) (r .sheet .n) (r .sheet .edges) B
 reads-hold r = offers-hold (r .offers)
