@@ -23,10 +23,10 @@ use Rattle.text.proofs.Outcomes.{fault-determined, sheet-determined, sh
 -- ---- judge
 
 -- two sheets of one text are one
-same-sheet : (text : List ℕ) (s t : Sheet) → SheetRange s → SheetRange t → text ≡ textOf s → text ≡ textOf t → s ≡ t
+pub same-sheet : (text : List ℕ) (s t : Sheet) → SheetRange s → SheetRange t → text ≡ textOf s → text ≡ textOf t → s ≡ t
 same-sheet text s t p q e f = sheet-determined s t p q (sym e ∙ f)
 
-never-both : {C : Type 0} (text : List ℕ) (s : Sheet) (f : Fault) → SheetRange s → text ≡ textOf s → FirstFault text f → C
+pub never-both : {C : Type 0} (text : List ℕ) (s : Sheet) (f : Fault) → SheetRange s → text ≡ textOf s → FirstFault text f → C
 never-both text s f p e q = absurd (sheet-no-fault s f p (subst (λ (t : List ℕ). FirstFault t f) e q))
 
 -- the judgement of a sheet

@@ -28,7 +28,7 @@ pub edges-text-snoc : (es : List Edge) (e : Edge) → edgesText (es ++ e ∷ [])
 unfolding edgesText
 edges-text-snoc es e = edges-text-append es (e ∷ []) ∙ ap (λ (s : List ℕ). edgesText es ++ s) (append-nil (edgeText e))
 
-edges-range-snoc : (n : ℕ) (es : List Edge) (e : Edge) → EdgesRange n es → EdgeRange n e → EdgesRange n (es ++ e ∷ [])
+pub edges-range-snoc : (n : ℕ) (es : List Edge) (e : Edge) → EdgesRange n es → EdgeRange n e → EdgesRange n (es ++ e ∷ [])
 edges-range-snoc n [] e r h = (h, tt)
 edges-range-snoc n (x ∷ es) e r h = (r .0, edges-range-snoc n es e (r .1) h)
 

@@ -1,0 +1,10 @@
+pub mod Reading
+pub mod Same
+pub mod Circuits
+pub mod Lines
+pub mod Stepping
+pub mod Calls
+pub mod Texts
+pub mod Ranges
+pub mod Trips
+pub mod Theorems
