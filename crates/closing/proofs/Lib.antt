@@ -1,0 +1,7 @@
+pub mod Moved
+pub mod NeverEmpty
+pub mod Sizes
+pub mod Parallel
+pub mod TextReasons
+pub mod AsOffer
+pub mod ByCalls
