@@ -3,7 +3,7 @@
 -- The checks of an offer are those of a question and one more, 6. So what an offer answers, but for 6, a question may answer too, and any
 -- two answers of a question agree (crate rule). On a full book an offer fails at 6 where the question passes.
 -- Assumes nothing.
-use mathlib.Core.Path.{_≡_, refl, sym, ap, _∙_}
+use mathlib.Core.Path.{_≡_, ap}
 use mathlib.Core.Logic.{_⊎_, inl, inr, ⊎-elim, _≢_}
 use mathlib.Core.List.{List, [], _∷_, _++_}
 use Prim.Native.Nat.{ℕ, _≤_, _<_}

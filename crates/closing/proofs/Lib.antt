@@ -5,3 +5,4 @@ pub mod Parallel
 pub mod TextReasons
 pub mod AsOffer
 pub mod ByCalls
+pub mod WrongPrograms

@@ -2,7 +2,7 @@
 --
 -- An earlier edge that was implied has forest 0 before and after; so an earlier edge whose forest differs was kept.
 -- Assumes nothing.
-use mathlib.Core.Path.{_≡_, sym, subst}
+use mathlib.Core.Path.{sym, subst}
 use mathlib.Core.List.{List}
 use Prim.Native.Nat.{ℕ, _≤_}
 use native.Mathlib.Omega.{arith}

@@ -3,7 +3,7 @@
 -- An edge that is answered implied passed the checks: the book is sound, so a is at least 1, and its ends are two bodies. The search for
 -- it (crate theory) then lists its circuit and finds it not empty; and a circuit is one list.
 -- Assumes nothing.
-use mathlib.Core.Path.{_≡_, refl, sym, ap, _∙_, subst, subst₂}
+use mathlib.Core.Path.{_≡_, refl, sym, ap, _∙_, subst}
 use mathlib.Core.Logic.{_≢_}
 use mathlib.Core.List.{List, _++_}
 use Prim.Native.Nat.{ℕ, _≤_}
@@ -11,7 +11,7 @@ use lib.ListN.{length, drop}
 use Rattle.rule.specs.declared.Book.{Book}
 use Rattle.rule.specs.declared.Answer.the-variants.{Implied}
 use Rattle.rule.specs.Sets.{In, _without_, numbers, at}
-use Rattle.rule.specs.Books.{designOf, forestOf, keptOf, offered, plus, next, Sound}
+use Rattle.rule.specs.Books.{designOf, keptOf, offered, plus, next, Sound}
 use Rattle.rule.specs.Calls.{ImpliesIt, Offer, Question}
 use Rattle.rule.proofs.Tests.{put-same}
 use Rattle.rule.proofs.Determined.{circuit-determined}

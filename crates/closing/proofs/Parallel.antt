@@ -6,8 +6,8 @@ use mathlib.Core.Logic.{_⊎_, ⊎-elim, _≢_}
 use Prim.Native.Nat.{ℕ, _+_, _≤_}
 use native.Mathlib.Omega.{arith}
 use Rattle.rule.specs.declared.Book.{Book}
-use Rattle.rule.specs.Sets.{Is, Set, In, _without_, at}
-use Rattle.rule.specs.Legal.{Design, k}
+use Rattle.rule.specs.Sets.{Is, Set, In, _without_}
+use Rattle.rule.specs.Legal.{Design}
 use Rattle.rule.specs.Forests.{Chain, Loopless, inForest, Permitted}
 use Rattle.rule.specs.Books.{designOf, forestOf, Sound}
 use Rattle.rule.proofs.Tests.{without-make}

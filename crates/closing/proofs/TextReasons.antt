@@ -10,7 +10,7 @@ use native.Mathlib.Omega.{arith}
 use Rattle.rule.specs.declared.Reason.{Reason}
 use Rattle.rule.specs.Reasons.{numberOf, Check, Fail}
 use Rattle.text.specs.Due.{Said, nothing, to-a, to-b, to-bodies, to-edges, due}
-use Rattle.text.specs.Faults.{AtFault, Faulty, Fault, FirstFault}
+use Rattle.text.specs.Faults.{Faulty, Fault, FirstFault}
 use Rattle.text.specs.Faults.AtFault.{other, fails}
 
 -- a number that a text may give
