@@ -42,7 +42,7 @@ fn refused(reason: Reason) {
 }
 
 // The first n numbers of a list, with commas between.
-fn numbers(list: &[u16], n: u16) {
+pub fn numbers(list: &[u16], n: u16) {
     let mut i: u16 = 0;
     while i < n {
         if 0 < i {
