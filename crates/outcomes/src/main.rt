@@ -106,19 +106,24 @@ fn with(book: Book, e: usize, u: u8, v: u8, colour: u8, forest: u8) -> Book {
     next
 }
 
-// A book with this head and these edges, each by four digits: its two bodies, its colour and its forest.
-fn laid(a: u8, b: u8, n: u8, count: u16, edges: &[u8]) -> Book {
-    let zeros = [0u8; 512];
-    let mut book = Book {
+// A book with one number in every edge place.
+fn strewn(a: u8, b: u8, n: u8, count: u16, x: u8) -> Book {
+    let all = [x; 512];
+    Book {
         a: a,
         b: b,
         n: n,
         count: count,
-        ones: zeros,
-        others: zeros,
-        colours: zeros,
-        forests: zeros,
-    };
+        ones: all,
+        others: all,
+        colours: all,
+        forests: all,
+    }
+}
+
+// A book with this head and these edges, each by four digits: its two bodies, its colour and its forest.
+fn laid(a: u8, b: u8, n: u8, count: u16, edges: &[u8]) -> Book {
+    let mut book = strewn(a, b, n, count, 0);
     let end = end_of(edges);
     let mut i: usize = 0;
     while i < end {
@@ -135,21 +140,6 @@ fn damaged(name: &[u8], a: u8, b: u8, n: u8, count: u16, edges: &[u8]) {
     say::text(name);
     say::figure(b" free", book::freedom(laid(a, b, n, count, edges)));
     say::text(b"\n");
-}
-
-// A book with one number in every edge place.
-fn strewn(a: u8, b: u8, n: u8, count: u16, x: u8) -> Book {
-    let all = [x; 512];
-    Book {
-        a: a,
-        b: b,
-        n: n,
-        count: count,
-        ones: all,
-        others: all,
-        colours: all,
-        forests: all,
-    }
 }
 
 // ---- large books
