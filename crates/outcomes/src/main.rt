@@ -49,6 +49,18 @@ fn both_short(name: &[u8], book: Book, u: usize, v: usize, colour: usize) {
     say::text(b"\n");
 }
 
+// An edge is offered with a list of sevens, whose first places are written then: past the answer they are sevens still.
+fn lent(name: &[u8], book: Book, u: usize, v: usize, colour: usize) {
+    let mut list = [7u16; 380];
+    say::text(name);
+    let r = step::offer(book, u, v, colour, &mut list);
+    let answer = r.answer;
+    say::answer(answer, &list);
+    say::text(b" list=");
+    say::numbers(&list, 4);
+    say::text(b"\n");
+}
+
 // ---- cases written as bytes
 
 fn byte(s: &[u8], i: usize) -> u8 {
@@ -94,19 +106,24 @@ fn with(book: Book, e: usize, u: u8, v: u8, colour: u8, forest: u8) -> Book {
     next
 }
 
-// A book with this head and these edges, each by four digits: its two bodies, its colour and its forest.
-fn laid(a: u8, b: u8, n: u8, count: u16, edges: &[u8]) -> Book {
-    let zeros = [0u8; 512];
-    let mut book = Book {
+// A book with one number in every edge place.
+fn strewn(a: u8, b: u8, n: u8, count: u16, x: u8) -> Book {
+    let all = [x; 512];
+    Book {
         a: a,
         b: b,
         n: n,
         count: count,
-        ones: zeros,
-        others: zeros,
-        colours: zeros,
-        forests: zeros,
-    };
+        ones: all,
+        others: all,
+        colours: all,
+        forests: all,
+    }
+}
+
+// A book with this head and these edges, each by four digits: its two bodies, its colour and its forest.
+fn laid(a: u8, b: u8, n: u8, count: u16, edges: &[u8]) -> Book {
+    let mut book = strewn(a, b, n, count, 0);
     let end = end_of(edges);
     let mut i: usize = 0;
     while i < end {
@@ -123,21 +140,6 @@ fn damaged(name: &[u8], a: u8, b: u8, n: u8, count: u16, edges: &[u8]) {
     say::text(name);
     say::figure(b" free", book::freedom(laid(a, b, n, count, edges)));
     say::text(b"\n");
-}
-
-// A book with one number in every edge place.
-fn strewn(a: u8, b: u8, n: u8, count: u16, x: u8) -> Book {
-    let all = [x; 512];
-    Book {
-        a: a,
-        b: b,
-        n: n,
-        count: count,
-        ones: all,
-        others: all,
-        colours: all,
-        forests: all,
-    }
 }
 
 // ---- large books
@@ -287,6 +289,14 @@ fn refusals() {
     );
 }
 
+// Places of a lent list past the answer keep what they held, and all of them when nothing is implied.
+fn lent_lists() {
+    let book = laid(1, 2, 3, 1, b"1211");
+    lent(b"list_implied", book, 1, 2, 1);
+    lent(b"list_kept", book, 1, 3, 1);
+    lent(b"list_refused", book, 2, 2, 1);
+}
+
 fn short_groups(name: &[u8], book: Book) {
     let mut list = [0u8; 63];
     say::text(name);
@@ -309,6 +319,7 @@ fn full() {
     both(b"513_kept", book, 1, 3, 2);
     both_short(b"377_before_full", book, 1, 3, 2);
     both(b"same_body_before_full", book, 3, 3, 2);
+    lent(b"list_full", book, 1, 2, 1);
 }
 
 // 64 bodies: a chain, and tight designs of the plane and of space, the last with the most edges that can be kept.
@@ -329,6 +340,7 @@ fn main() {
     damaged_edges();
     damaged_heads();
     refusals();
+    lent_lists();
     short_group_lists();
     full();
     large();

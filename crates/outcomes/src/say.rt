@@ -1,6 +1,8 @@
 // What the calls answer, written behind the name of its case: a word and, where there is one, a number or a list.
 //
 // Moved is not written: it goes with the choice of forests, which document 01 leaves open.
+ghost use mathlib.Core.Path.{_≡_};
+ghost use Rattle.rule.specs.Reasons.{numberOf};
 use rule::Answer;
 use rule::Book;
 use rule::Done;
@@ -18,7 +20,9 @@ fn number(n: u16) {
 }
 
 // The number of a reason in the table of document 01.
-fn number_of(reason: Reason) -> u16 {
+fn number_of(reason: Reason) -> u16
+    ensures { λ r. ⌜ r ≡ numberOf reason ⌝ }
+{
     match reason {
         Reason::Profile => 1,
         Reason::Bodies => 2,
@@ -42,7 +46,7 @@ fn refused(reason: Reason) {
 }
 
 // The first n numbers of a list, with commas between.
-fn numbers(list: &[u16], n: u16) {
+pub fn numbers(list: &[u16], n: u16) {
     let mut i: u16 = 0;
     while i < n {
         if 0 < i {

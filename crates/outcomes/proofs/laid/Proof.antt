@@ -10,6 +10,9 @@ Inv-loop a b n count edges book₀ end i₀ book i = Unit
 abbrev μ-loop : tie.MeasureT-loop
 μ-loop a b n count edges book₀ end i₀ book i = end - i
 
+strewn-requires : tie.Need-strewn-requires Inv-loop μ-loop
+strewn-requires c κs = search needs
+
 end-of-requires : tie.Need-end-of-requires Inv-loop μ-loop
 end-of-requires c κs = search needs
 
@@ -58,6 +61,7 @@ laid-spec =
     (tie.spec
     Inv-loop
     μ-loop
+    strewn-requires
     end-of-requires
     loop-holds
     digit-requires
