@@ -1,4 +1,5 @@
 pub mod Adding
+pub mod Rounds
 pub mod Listing
 pub mod Edges
 pub mod Sizes

@@ -146,3 +146,23 @@ pub fn edge_line(buffer: &mut [u8], one: usize, other: usize, colour: u8) -> usi
     }
     pair_line(buffer, b"black=", one, other)
 }
+
+// ---- lines from a place on
+
+// A line of a key and one number.
+pub fn add_number_line(buffer: &mut [u8], at: usize, key: &[u8], n: usize) -> usize
+    requires { ⌜ at + length (line (now key) (n ∷ [])) ≤ length (now buffer) ⌝ }
+    ensures { λ r. ⌜ Adds (line (now (key .entry)) (n ∷ [])) (now (buffer .entry)) (now (buffer .exit)) at r ⌝ }
+{
+    let more = put::number_line(&mut buffer[at..], key, n);
+    at + more
+}
+
+// An edge.
+pub fn add_edge_line(buffer: &mut [u8], at: usize, one: usize, other: usize, colour: u8) -> usize
+    requires { ⌜ at + length (edgeText (record { one = one; other = other; colour = colour })) ≤ length (now buffer) ⌝ }
+    ensures { λ r. ⌜ Adds (edgeText (record { one = one; other = other; colour = colour })) (now (buffer .entry)) (now (buffer .exit)) at r ⌝ }
+{
+    let more = edge_line(&mut buffer[at..], one, other, colour);
+    at + more
+}
