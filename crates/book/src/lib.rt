@@ -382,7 +382,7 @@ fn implied_of(book: Book) -> u16
 }
 
 // A refusal, handed on.
-fn no_figure(c: Checked) -> Figure
+pub fn no_figure(c: Checked) -> Figure
     ensures { λ r. ⌜ r ≡ figureOf c ⌝ }
 {
     match c {

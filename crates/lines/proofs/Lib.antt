@@ -1,0 +1,6 @@
+pub mod Adding
+pub mod Rounds
+pub mod Listing
+pub mod Edges
+pub mod Sizes
+pub mod Widening

@@ -1,0 +1,3 @@
+pub mod Sheets
+pub mod Refusing
+pub mod Determined
