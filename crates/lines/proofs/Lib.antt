@@ -1,0 +1,5 @@
+pub mod Adding
+pub mod Listing
+pub mod Edges
+pub mod Sizes
+pub mod Widening
