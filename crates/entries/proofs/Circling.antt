@@ -1,60 +1,29 @@
 -- The circuit of an edge e in no forest, from the search for a place of its twin: an edge offered anew between the same bodies and of the same
 -- colour. Where the search is stuck, what the list holds is the twin's circuit, and so that of e. Where it is not, the kept edges take the twin, and
 -- so every kept edge is in the circuit of e.
---
--- Either way the circuit is some of the kept edges, of which a sound book has at most 378.
 -- Assumes nothing.
-use mathlib.Core.Path.{_≡_, refl, sym, ap, _∙_, subst}
+use mathlib.Core.Path.{_≡_, sym, ap, _∙_, subst}
 use mathlib.Core.List.{List}
-use Prim.Native.Nat.{ℕ, _-_, _≤_}
+use Prim.Native.Nat.{ℕ, _-_}
 use native.Mathlib.Omega.{arith}
 use lib.ListN.{length, getD, take, drop, length-append}
 use lib.Seq.{take-at}
 use Rattle.rule.specs.declared.Book.{Book}
-use Rattle.rule.specs.Sets.{Is, _=?_, In, count, at, numbers}
+use Rattle.rule.specs.Sets.{Is, _=?_, In, at, numbers}
 use Rattle.rule.specs.Legal.{Circuit}
-use Rattle.rule.specs.Books.{designOf, forestOf, keptOf, next, Sound}
+use Rattle.rule.specs.Books.{designOf, forestOf, keptOf, next}
 use Rattle.rule.specs.Calls.{Filled}
-use Rattle.rule.proofs.Counting.{count-eq, count-mono, numbers-eq, length-numbers}
-use Rattle.rule.proofs.Legality.{legal-size}
+use Rattle.rule.proofs.Counting.{numbers-eq}
 use Rattle.theory.proofs.Legal.Kept.{kept-has, kept-most}
-use Rattle.theory.proofs.Legal.Sound.{sound-head, sound-edge, sound-legal}
+use Rattle.theory.proofs.Legal.Sound.{sound-edge}
 use Rattle.theory.proofs.Laws.Twin.{twin-circuit, free-circuit}
-use Rattle.book.proofs.Figures.{placed, kept-placed, full-fits}
+use Rattle.book.proofs.Figures.{placed, kept-placed}
 use Rattle.moving.proofs.Walking.{at-place}
 use Rattle.reaching.proofs.Laid.{laid-first}
 use Rattle.search.specs.Marks.{Written}
 use Rattle.placing.specs.Seek.{Seekable, Ends, Fails}
 use Rattle.placing.proofs.Says.{found-says, stuck-says}
 use Rattle.entries.specs.Listable.{Listable, HoldsCircuit}
-
--- ---- how many edges are kept
-
-pub kept-few : (B : Book) → Sound B → count (keptOf B) (B .count) ≤ 378
-unfolding designOf
-kept-few B sound =
-    let head = sound-head B sound in
-    omega (
-      arith,
-      legal-size (designOf B) (keptOf B) (head .bodies .low) (sound-legal B sound),
-      full-fits (B .a) (B .b) (B .n) (head .profile .0 .high) (head .profile .1 .high) (head .bodies .high),
-    )
-
-pub placed-few : (B : Book) → Sound B → count (placed (B .forests)) (B .count) ≤ 378
-placed-few B sound = omega (arith, kept-few B sound, count-eq (keptOf B) (placed (B .forests)) (B .count) (kept-placed B))
-
-pub circuit-few : (B : Book) → Sound B → (e : ℕ) {list : List ℕ} → Circuit (designOf B) (keptOf B) e list → length list ≤ 378
-unfolding designOf
-circuit-few B sound e c =
-    omega (
-      arith,
-      ap length (c .in-order),
-      length-numbers (c .chosen) (B .count),
-      count-mono (c .chosen) (keptOf B) (B .count) (λ i h t. c .exactly i h .0 t .0),
-      kept-few B sound,
-    )
-
--- ---- the circuit of e
 
 module _ (B : Book) (e : ℕ) {root way edge : List ℕ} (l : Listable B e root way edge) where
   abbrev u : ℕ

@@ -6,8 +6,11 @@ ghost use mathlib.Core.List.{List};
 ghost use Prim.Native.Nat.{ℕ, _≤_};
 ghost use lib.ListN.{length};
 ghost use Rattle.rule.specs.Sets.{_<?_, count as counted, at, numbers};
+ghost use Rattle.rule.specs.Books.{designOf, keptOf};
 ghost use Rattle.search.specs.Marks.{Written};
 ghost use Rattle.placing.specs.Seek.{Seekable, Seeks};
+ghost use Rattle.pages.specs.Reports.{ImpliedLine};
+ghost use Rattle.pages.specs.Steps.{lineRoom, Puts};
 ghost use Rattle.entries.specs.Listable.{Listable, HoldsCircuit};
 use placing::Head;
 use placing::Place;
@@ -100,4 +103,21 @@ fn circuit(
         Place::Found(n, f) => all_kept(count, &forests, list),
         Place::Stuck(n) => n as usize,
     }
+}
+
+// The line of edge e, which is in no forest: `implied=` with its circuit among all kept edges.
+pub fn implied_line(
+    book: Book,
+    e: u16,
+    root: &[u8; 384],
+    way: &[u64; 384],
+    edge: &[u16; 384],
+    buffer: &mut [u8],
+) -> usize
+    requires { ⌜ Listable book e (now root) (now way) (now edge) × (lineRoom ≤ length (now buffer)) ⌝ }
+    ensures { λ r. ⌜ Puts (ImpliedLine (designOf book) (keptOf book) e) (now (buffer .entry)) (now (buffer .exit)) r ⌝ }
+{
+    let mut list = [0u16; 378];
+    let n = circuit(book, e, root, way, edge, &mut list);
+    lines::list_line(buffer, b"implied=", &list, n)
 }

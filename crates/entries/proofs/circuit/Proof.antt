@@ -11,7 +11,8 @@ use Rattle.book.proofs.Figures.{placed}
 use Rattle.placing.specs.declared.Place.{Place}
 use Rattle.placing.specs.declared.Place.the-variants.{Found, Stuck}
 use Rattle.placing.specs.Seek.{Seeks}
-use Rattle.entries.proofs.Circling.{placed-few, asks, found-holds, stuck-holds}
+use Rattle.entries.proofs.Room.{placed-few}
+use Rattle.entries.proofs.Circling.{asks, found-holds, stuck-holds}
 use Rattle.entries.proofs.circuit.Statement.{statement}
 use Rattle.entries.proofs.circuit.Tie as tie
 
