@@ -20,7 +20,7 @@ use Rattle.rule.specs.Sets.{Is, isnt, _<?_, Set, In, one-if, count, at}
 use Rattle.rule.specs.Figures.{freedom, dropped, verdictOn}
 use Rattle.rule.specs.Books.{designOf, forestOf, keptOf, Sound}
 use Rattle.rule.proofs.Tests.{same-test, is-false, lt-of, lt-is}
-use Rattle.rule.proofs.Counting.{count-le, count-eq, count-none, count-all, count-sums}
+use Rattle.rule.proofs.Counting.{Agree, count-le, count-eq, count-none, count-all, count-sums}
 use Rattle.rule.proofs.Legality.{legal-size}
 use Rattle.theory.proofs.Legal.Kept.{kept-make, kept-has}
 use Rattle.theory.proofs.Legal.Sound.{sound-head, sound-legal}
@@ -56,13 +56,15 @@ unfolding isnt
 one-if-either true = refl
 one-if-either false = refl
 
+-- of a book's edges, those that have a forest are the kept ones
+pub kept-placed : (B : Book) → Agree (B .count) (keptOf B) (placed (B .forests))
+unfolding designOf
+kept-placed B e h =
+    same-test _ _ (λ t. lt-is _ _ (kept-has (designOf B) (forestOf B) e t)) (λ t. kept-make (designOf B) (forestOf B) e (h .high) (lt-of _ _ t))
+
 module _ (B : Book) (sound : Sound B) (found : ℕ) (counted : found ≡ count (placed (B .forests)) (B .count)) where
   kept-found : count (keptOf B) (B .count) ≡ found
-  unfolding designOf
-  kept-found =
-      count-eq (keptOf B) (placed (B .forests)) (B .count)
-      (λ e h. same-test _ _ (λ t. lt-is _ _ (kept-has (designOf B) (forestOf B) e t)) (λ t. kept-make (designOf B) (forestOf B) e (h .high) (lt-of _ _ t)))
-      ∙ sym counted
+  kept-found = count-eq (keptOf B) (placed (B .forests)) (B .count) (kept-placed B) ∙ sym counted
 
   pub found-fits : found ≤ (B .a + B .b) * (B .n - 1)
   unfolding designOf

@@ -4,3 +4,4 @@ pub mod Grown
 pub mod Order
 pub mod Undo
 pub mod Circuits
+pub mod Twin

@@ -44,7 +44,7 @@ module _ (s : Set) where
   unfolding numbers
   with-last m t = ap (λ (b : Bool). numbers s m ++ only-if b (suc m)) t
 
-  without-last : (m : ℕ) → ¬ (Is (s (suc m))) → numbers s (suc m) ≡ numbers s m
+  pub without-last : (m : ℕ) → ¬ (Is (s (suc m))) → numbers s (suc m) ≡ numbers s m
   unfolding numbers
   without-last m n = ap (λ (b : Bool). numbers s m ++ only-if b (suc m)) (is-false (s (suc m)) n) ∙ append-nil (numbers s m)
 

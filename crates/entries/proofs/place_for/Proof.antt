@@ -1,0 +1,19 @@
+-- `entries::place_for`: what `placing::seek` says of the book's lists, wherever the path was written.
+use borrow.Author.Needs.{needs}
+use Rattle.entries.proofs.place_for.Statement.{statement}
+use Rattle.entries.proofs.place_for.Tie as tie
+
+seek-requires : tie.Need-seek-requires
+seek-requires c κs = search needs
+
+same-length : tie.Need-same-length
+same-length c = search needs
+
+returns : tie.Need-returns
+returns c =
+    let start = c .before .before .before .before .before .before .before .before .before .before .before .before .before .before .before .before in
+    let seek = c .before .before .seek in
+    (seek .last .1 .1 .1 .1 .1 .1 .1 .1 .1 .1 .1 .1 .1 .0, seek .ensures .3 (start .pre .1))
+
+pub place-for-spec : {M : Type 1} → statement M
+place-for-spec = tie.close (tie.spec seek-requires same-length returns)
