@@ -6,3 +6,4 @@ pub mod Reasons
 pub mod AsOffer
 pub mod ByCalls
 pub mod WrongPrograms
+pub mod Determined
