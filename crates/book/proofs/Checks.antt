@@ -96,8 +96,11 @@ pub found-alone : (cs : List Check) (more : Type 0) (c : Checked) → Found cs m
 found-alone cs more Fine f = (f .0, tt)
 found-alone cs more (Refused r) f = f
 
+pub passed : (cs : List Check) (more : Type 0) (c : Checked) → c ≡ Fine → Found cs more c → Pass cs × more
+passed cs more c q f = subst (Found cs more) q f
+
 pub passed-sound : (B : Book) (c : Checked) → c ≡ Fine → Found (bookChecks B) Unit c → Sound B
-passed-sound B c q f = subst (Found (bookChecks B) Unit) q f .0 .0
+passed-sound B c q f = passed (bookChecks B) Unit c q f .0 .0
 
 -- a refusal that a call hands on in its own kind of answer
 pub handed-on : {A : Type 0} (B : Book) (P : A → Type 0) (answer : Checked → A) → ((r : Reason) → Fail (bookChecks B) r → P (answer (Refused r)))

@@ -346,7 +346,7 @@ pub fn sound_alone(book: Book) -> Checked
 }
 
 // How many of the first edges have a forest.
-fn kept(count: u16, forests: &[u8; 512]) -> u16
+pub fn kept(count: u16, forests: &[u8; 512]) -> u16
     requires { ⌜ count ≤ 512 ⌝ }
     ensures { λ r. ⌜ r ≡ counted (λ e. 0 <? at (now (forests .entry)) e) count ⌝ }
 {
@@ -362,7 +362,7 @@ fn kept(count: u16, forests: &[u8; 512]) -> u16
 }
 
 // The freedom of a sound book, and how many of its edges are implied.
-fn free_of(book: Book) -> u16
+pub fn free_of(book: Book) -> u16
     requires { ⌜ Sound book ⌝ }
     ensures { λ r. ⌜ r ≡ freedomOf (designOf book) (keptOf book) ⌝ }
 {
@@ -373,7 +373,7 @@ fn free_of(book: Book) -> u16
     (a + b) * (n - 1) - kept(count, &book.forests)
 }
 
-fn implied_of(book: Book) -> u16
+pub fn implied_of(book: Book) -> u16
     requires { ⌜ Sound book ⌝ }
     ensures { λ r. ⌜ r ≡ droppedOf (designOf book) (keptOf book) ⌝ }
 {
@@ -400,7 +400,7 @@ fn no_verdict(c: Checked) -> Judged
     }
 }
 
-fn judge(free: u16, implied: u16) -> Verdict
+pub fn judge(free: u16, implied: u16) -> Verdict
     ensures { λ r. ⌜ r ≡ verdictOn free implied ⌝ }
 {
     if implied == 0 {

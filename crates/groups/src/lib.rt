@@ -222,7 +222,7 @@ pub fn classes<'a>(
 }
 
 // The group list of a sound book.
-fn list_groups(book: Book, list: &mut [u8])
+pub fn list_groups(book: Book, list: &mut [u8])
     requires { ⌜ Sound book × (groupsRoom ≤ length (now list)) ⌝ }
     ensures { λ r. ⌜ Grouped book (now (list .entry)) (now (list .exit)) Done.Fine ⌝ }
 {

@@ -10,7 +10,7 @@ use Rattle.rule.specs.declared.Book.{Book}
 use Rattle.rule.specs.declared.Answer.{Answer}
 use Rattle.rule.specs.declared.Answer.the-variants.{Kept, Implied}
 use Rattle.rule.specs.declared.Reason.{Reason}
-use Rattle.rule.specs.Reasons.{Check, Pass, offerChecks, questionChecks}
+use Rattle.rule.specs.Reasons.{offerChecks, questionChecks}
 use Rattle.rule.specs.Sets.{In}
 use Rattle.rule.specs.Books.{next, Sound, ColourRange}
 use Rattle.rule.specs.Calls.{KeepsIt, ImpliesIt, Offer, Question}
@@ -26,9 +26,6 @@ use Rattle.placing.proofs.Says.{found-says, stuck-says}
 use Rattle.step.specs.Answers.{answerOf, Askable}
 
 -- ---- the checks
-
-pub passed : (checks : List Check) (more : Type 0) (c : Checked) → c ≡ Checked.Fine → Found checks more c → Pass checks × more
-passed checks more c q f = subst (Found checks more) q f
 
 module _ (B : Book) (u v colour : ℕ) (list : List ℕ) (more : Type 0) (c : Checked) (reason : Reason) (q : c ≡ Checked.Refused reason) (answer : Answer)
     (handed : answer ≡ answerOf c) where

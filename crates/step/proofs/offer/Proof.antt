@@ -5,7 +5,8 @@ use lib.ListN.{length}
 use Rattle.rule.specs.Reasons.{Pass, offerChecks}
 use Rattle.book.specs.Checks.{Holds}
 use Rattle.placing.specs.Take.{Full}
-use Rattle.step.proofs.Asked.{passed, offer-refused, small-body, small-colour}
+use Rattle.book.proofs.Checks.{passed}
+use Rattle.step.proofs.Asked.{offer-refused, small-body, small-colour}
 use Rattle.step.proofs.offer.Statement.{statement}
 use Rattle.step.proofs.offer.Tie as tie
 

@@ -3,7 +3,8 @@ use borrow.Author.Needs.{needs}
 use mathlib.Core.Path.{refl}
 use Rattle.rule.specs.Reasons.{Pass, questionChecks}
 use Rattle.book.specs.Checks.{Holds}
-use Rattle.step.proofs.Asked.{passed, question-refused, small-body, small-colour}
+use Rattle.book.proofs.Checks.{passed}
+use Rattle.step.proofs.Asked.{question-refused, small-body, small-colour}
 use Rattle.step.proofs.question.Statement.{statement}
 use Rattle.step.proofs.question.Tie as tie
 

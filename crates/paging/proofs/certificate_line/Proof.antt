@@ -1,0 +1,50 @@
+-- `paging::certificate_line`: which line it is, by how many edges the book has (Says.antt).
+use borrow.Author.Needs.{needs}
+use native.Mathlib.Omega.{arith}
+use Rattle.paging.proofs.Says.{certificate-edge, certificate-forest}
+use Rattle.paging.proofs.certificate_line.Statement.{statement}
+use Rattle.paging.proofs.certificate_line.Tie as tie
+
+head-line-requires : tie.Need-head-line-requires
+head-line-requires c κs = search needs
+
+same-length : tie.Need-same-length
+same-length c = search needs
+
+returns : tie.Need-returns
+returns c = c .before .before .head-line .ensures
+
+edge-line-requires : tie.Need-edge-line-requires
+edge-line-requires c κs = search needs
+
+same-length-2 : tie.Need-same-length-2
+same-length-2 c = search needs
+
+returns-2 : tie.Need-returns-2
+returns-2 c = certificate-edge (c .before .before .before .before .before .before .before .args .book) (c .before .before .before .before .before .before .before .args .i) (c .before .before .before .before .before .if1 .left) (c .before .before .before .before .if2 .taken) (c .before .before .edge-line .ensures)
+
+forest-line-requires : tie.Need-forest-line-requires
+forest-line-requires c κs = search needs
+
+same-length-3 : tie.Need-same-length-3
+same-length-3 c = search needs
+
+returns-3 : tie.Need-returns-3
+returns-3 c =
+    let start = c .before .before .before .before .before .before .before in
+    certificate-forest (start .args .book) (start .args .i) (c .before .before .before .before .before .if1 .left) (c .before .before .before .before .if2 .left)
+    (omega (arith, start .pre .1 .0, c .before .before .before .before .before .if1 .left, c .before .before .before .before .if2 .left)) (c .before .before .forest-line .ensures)
+
+pub certificate-line-spec : {M : Type 1} → statement M
+certificate-line-spec =
+    tie.close
+    (tie.spec
+    head-line-requires
+    same-length
+    returns
+    edge-line-requires
+    same-length-2
+    returns-2
+    forest-line-requires
+    same-length-3
+    returns-3)

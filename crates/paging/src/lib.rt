@@ -1,0 +1,440 @@
+// The report and the certificate of a state, a page of lines at a time: as many lines as the lent buffer has room for, or only the next one.
+// What the lines are, and what a page and a next line leave behind, is said in crate pages.
+//
+// A page checks the buffer and then, where the text was received as a book, scans that book; so the tables hold its forests, from which the
+// circuits are listed. The lines are then written one behind the other, each into the unwritten rest of the buffer.
+//
+// Whether it is the report or the certificate is a parameter: a face for each would only say both functions and their contracts twice.
+ghost use mathlib.Core.Path.{_≡_};
+ghost use mathlib.Core.List.{[], _∷_, _++_};
+ghost use Prim.Native.Nat.{suc, _≤_, _<_};
+ghost use lib.ListN.{length};
+ghost use Rattle.rule.specs.Books.{designOf, forestOf, keptOf, Sound};
+ghost use Rattle.rule.specs.Figures.{freedom, dropped, verdict};
+ghost use Rattle.rule.specs.Reasons.{numberOf};
+ghost use Rattle.text.specs.Lines.{LF, line};
+ghost use Rattle.text.specs.Sheets.{edgeText};
+ghost use Rattle.text.specs.Puts.{Writes};
+ghost use Rattle.pages.specs.Keys.{key-kept, key-free, key-dropped, key-verdict, wordOf};
+ghost use Rattle.pages.specs.Reads.{edgeOf};
+ghost use Rattle.pages.specs.Reports.{freedomAfter, EdgeLine, GroupsLine, ForestLine};
+ghost use Rattle.pages.specs.Steps.{Puts, Next, Page, report, certificate, lineRoom, written};
+ghost use Rattle.paging.specs.Kinds.{formOf, lineFrom};
+ghost use Rattle.paging.specs.Lent.{Known, Tally, FullRun};
+use book::Checked;
+use pages::Line;
+use pages::Received;
+use pages::State;
+use pages::Stepped;
+use rule::Book;
+use rule::Reason;
+
+// Which of the two a page is of.
+pub enum Kind {
+    Report,
+    Certificate,
+}
+
+// ---- the kept edges
+
+// How many of the first i edges are kept. Past the edges nobody asks.
+fn kept_before(book: Book, i: u16) -> u16
+    requires { ⌜ Sound book ⌝ }
+    ensures { λ r. ⌜ Tally book i r ⌝ }
+{
+    let count = book.count;
+    if count < i {
+        return 0;
+    }
+    book::kept(i, &book.forests)
+}
+
+// The same with one edge more.
+fn kept_after(book: Book, i: u16, kept: u16) -> u16
+    requires { ⌜ Sound book × (Tally book i kept × (i < 65535)) ⌝ }
+    ensures { λ r. ⌜ Tally book (suc i) r ⌝ }
+{
+    let count = book.count;
+    if count <= i {
+        return kept;
+    }
+    let at = i as usize;
+    if book.forests[at] == 0 {
+        return kept;
+    }
+    kept + 1
+}
+
+// ---- the report
+
+// A kept edge: the freedom after it.
+fn kept_line(book: Book, i: u16, kept: u16, buffer: &mut [u8]) -> usize
+    requires { ⌜ Sound book × ((i < book .count) × (1 ≤ forestOf book (suc i))) ⌝ }
+    requires { ⌜ Tally book i kept × (lineRoom ≤ length (now buffer)) ⌝ }
+    ensures { λ r. ⌜ Writes (line key-kept (freedomAfter (designOf book) (keptOf book) (suc i) ∷ [])) (now (buffer .entry)) (now (buffer .exit)) r ⌝ }
+{
+    let a = book.a as usize;
+    let b = book.b as usize;
+    let n = book.n as usize;
+    let full = (a + b) * (n - 1);
+    text::put::number_line(buffer, b"kept=", full - (kept as usize + 1))
+}
+
+// The edge after i others, kept or implied.
+fn report_edge(
+    book: Book,
+    i: u16,
+    kept: u16,
+    root: &[u8; 384],
+    way: &[u64; 384],
+    edge: &[u16; 384],
+    buffer: &mut [u8],
+) -> usize
+    requires { ⌜ Known book (now root) (now way) (now edge) × (i < book .count) ⌝ }
+    requires { ⌜ Tally book i kept × (lineRoom ≤ length (now buffer)) ⌝ }
+    ensures { λ r. ⌜ Puts (EdgeLine (designOf book) (keptOf book) (λ e. keptOf book) (suc i)) (now (buffer .entry)) (now (buffer .exit)) r ⌝ }
+{
+    let at = i as usize;
+    if book.forests[at] == 0 {
+        return entries::implied_line(book, i + 1, root, way, edge, buffer);
+    }
+    kept_line(book, i, kept, buffer)
+}
+
+fn free_line(book: Book, buffer: &mut [u8]) -> usize
+    requires { ⌜ Sound book × (lineRoom ≤ length (now buffer)) ⌝ }
+    ensures { λ r. ⌜ Writes (line key-free (freedom (designOf book) (keptOf book) ∷ [])) (now (buffer .entry)) (now (buffer .exit)) r ⌝ }
+{
+    let free = book::free_of(book) as usize;
+    text::put::number_line(buffer, b"free=", free)
+}
+
+fn dropped_line(book: Book, buffer: &mut [u8]) -> usize
+    requires { ⌜ Sound book × (lineRoom ≤ length (now buffer)) ⌝ }
+    ensures { λ r. ⌜ Writes (line key-dropped (dropped (designOf book) (keptOf book) ∷ [])) (now (buffer .entry)) (now (buffer .exit)) r ⌝ }
+{
+    let implied = book::implied_of(book) as usize;
+    text::put::number_line(buffer, b"dropped=", implied)
+}
+
+fn judged_line(book: Book, buffer: &mut [u8]) -> usize
+    requires { ⌜ Sound book × (lineRoom ≤ length (now buffer)) ⌝ }
+    ensures { λ r. ⌜ Writes (key-verdict ++ (wordOf (verdict (designOf book) (keptOf book)) ++ LF ∷ [])) (now (buffer .entry)) (now (buffer .exit)) r ⌝ }
+{
+    lines::verdict_line(
+        buffer,
+        book::judge(book::free_of(book), book::implied_of(book)),
+    )
+}
+
+fn groups_line(book: Book, buffer: &mut [u8]) -> usize
+    requires { ⌜ Sound book × (lineRoom ≤ length (now buffer)) ⌝ }
+    ensures { λ r. ⌜ Puts (GroupsLine (designOf book) (keptOf book)) (now (buffer .entry)) (now (buffer .exit)) r ⌝ }
+{
+    let mut list = [0u8; 64];
+    groups::list_groups(book, &mut list);
+    let n = book.n as usize;
+    let mut leaders = [0u16; 64];
+    lines::widen(&list, n, &mut leaders);
+    lines::list_line(buffer, b"groups=", &leaders, n)
+}
+
+// Line i of the report, counted from 0: the edges, then the figures of the whole book.
+fn report_line(
+    book: Book,
+    i: u16,
+    kept: u16,
+    root: &[u8; 384],
+    way: &[u64; 384],
+    edge: &[u16; 384],
+    buffer: &mut [u8],
+) -> usize
+    requires { ⌜ Known book (now root) (now way) (now edge) × (i < report .number book) ⌝ }
+    requires { ⌜ Tally book i kept × (lineRoom ≤ length (now buffer)) ⌝ }
+    ensures { λ r. ⌜ Puts (report .Says book i) (now (buffer .entry)) (now (buffer .exit)) r ⌝ }
+{
+    let count = book.count;
+    if i < count {
+        return report_edge(book, i, kept, root, way, edge, buffer);
+    }
+    let figure = i - count;
+    if figure == 0 {
+        return free_line(book, buffer);
+    }
+    if figure == 1 {
+        return dropped_line(book, buffer);
+    }
+    if figure == 2 {
+        return judged_line(book, buffer);
+    }
+    groups_line(book, buffer)
+}
+
+// ---- the certificate
+
+// The lines a, b, bodies and edges.
+fn head_line(book: Book, i: u16, buffer: &mut [u8]) -> usize
+    requires { ⌜ Sound book × ((i < 4) × (lineRoom ≤ length (now buffer))) ⌝ }
+    ensures { λ r. ⌜ Puts (certificate .Says book i) (now (buffer .entry)) (now (buffer .exit)) r ⌝ }
+{
+    if i == 0 {
+        let a = book.a as usize;
+        return text::put::number_line(buffer, b"a=", a);
+    }
+    if i == 1 {
+        let b = book.b as usize;
+        return text::put::number_line(buffer, b"b=", b);
+    }
+    if i == 2 {
+        let n = book.n as usize;
+        return text::put::number_line(buffer, b"bodies=", n);
+    }
+    let count = book.count as usize;
+    text::put::number_line(buffer, b"edges=", count)
+}
+
+// The edge after e others, as it was given.
+fn edge_line(book: Book, e: u16, buffer: &mut [u8]) -> usize
+    requires { ⌜ Sound book × ((e < book .count) × (lineRoom ≤ length (now buffer))) ⌝ }
+    ensures { λ r. ⌜ Writes (edgeText (edgeOf book (suc e))) (now (buffer .entry)) (now (buffer .exit)) r ⌝ }
+{
+    let at = e as usize;
+    let one = book.ones[at] as usize;
+    let other = book.others[at] as usize;
+    let colour = book.colours[at];
+    lines::edge_line(buffer, one, other, colour)
+}
+
+// The forest of a kept edge, or the circuit of an implied one.
+fn forest_line(
+    book: Book,
+    e: u16,
+    root: &[u8; 384],
+    way: &[u64; 384],
+    edge: &[u16; 384],
+    buffer: &mut [u8],
+) -> usize
+    requires { ⌜ Known book (now root) (now way) (now edge) × ((e < book .count) × (lineRoom ≤ length (now buffer))) ⌝ }
+    ensures { λ r. ⌜ Puts (ForestLine book (λ e. keptOf book) (suc e)) (now (buffer .entry)) (now (buffer .exit)) r ⌝ }
+{
+    let at = e as usize;
+    let forest = book.forests[at] as usize;
+    if forest == 0 {
+        return entries::implied_line(book, e + 1, root, way, edge, buffer);
+    }
+    text::put::number_line(buffer, b"forest=", forest)
+}
+
+// Line i of the certificate, counted from 0: the book text, and then a line for each edge.
+fn certificate_line(
+    book: Book,
+    i: u16,
+    root: &[u8; 384],
+    way: &[u64; 384],
+    edge: &[u16; 384],
+    buffer: &mut [u8],
+) -> usize
+    requires { ⌜ Known book (now root) (now way) (now edge) × ((i < certificate .number book) × (lineRoom ≤ length (now buffer))) ⌝ }
+    ensures { λ r. ⌜ Puts (certificate .Says book i) (now (buffer .entry)) (now (buffer .exit)) r ⌝ }
+{
+    if i < 4 {
+        return head_line(book, i, buffer);
+    }
+    let count = book.count;
+    let e = i - 4;
+    if e < count {
+        return edge_line(book, e, buffer);
+    }
+    forest_line(book, e - count, root, way, edge, buffer)
+}
+
+// ---- a page
+
+// How many lines there are.
+fn number_of_lines(kind: Kind, book: Book) -> u16
+    requires { ⌜ Sound book ⌝ }
+    ensures { λ r. ⌜ r ≡ formOf kind .number book ⌝ }
+{
+    let count = book.count;
+    match kind {
+        Kind::Report => count + 4,
+        Kind::Certificate => 4 + count + count,
+    }
+}
+
+// Line i of either.
+fn line(
+    kind: Kind,
+    book: Book,
+    i: u16,
+    kept: u16,
+    root: &[u8; 384],
+    way: &[u64; 384],
+    edge: &[u16; 384],
+    buffer: &mut [u8],
+) -> usize
+    requires { ⌜ Known book (now root) (now way) (now edge) × (i < formOf kind .number book) ⌝ }
+    requires { ⌜ Tally book i kept × (lineRoom ≤ length (now buffer)) ⌝ }
+    ensures { λ r. ⌜ Puts (formOf kind .Says book i) (now (buffer .entry)) (now (buffer .exit)) r ⌝ }
+{
+    match kind {
+        Kind::Report => report_line(book, i, kept, root, way, edge, buffer),
+        Kind::Certificate => certificate_line(book, i, root, way, edge, buffer),
+    }
+}
+
+// How far a page has come: the line that is next, and the end of what is written.
+pub struct Filled {
+    pub line: u16,
+    pub end: usize,
+}
+
+// The lines from one on, as long as there are some and a line's room is left.
+fn fill(
+    kind: Kind,
+    book: Book,
+    first: u16,
+    root: &[u8; 384],
+    way: &[u64; 384],
+    edge: &[u16; 384],
+    buffer: &mut [u8],
+) -> Filled
+    requires { ⌜ Known book (now root) (now way) (now edge) ⌝ }
+    ensures { λ r. ⌜ FullRun (formOf kind) book first (now (buffer .entry)) (now (buffer .exit)) r ⌝ }
+{
+    let number = number_of_lines(kind, book);
+    let mut kept = kept_before(book, first);
+    let mut i = first;
+    let mut end: usize = 0;
+    while i < number {
+        if buffer.len() - end < 2048 {
+            return Filled { line: i, end: end };
+        }
+        let more = line(kind, book, i, kept, root, way, edge, &mut buffer[end..]);
+        end = end + more;
+        kept = kept_after(book, i, kept);
+        i = i + 1;
+    }
+    Filled { line: i, end: end }
+}
+
+// The state with so many lines written.
+fn further(state: State, line: u16) -> State
+    ensures { λ r. ⌜ r ≡ written state line ⌝ }
+{
+    let mut after = state;
+    after.line = line;
+    after
+}
+
+// A refusal, handed on.
+fn refusal(c: Checked) -> Line
+    ensures { λ r. ⌜ r ≡ lineFrom c ⌝ }
+{
+    match c {
+        Checked::Fine => Line::Over,
+        Checked::Refused(reason) => Line::Refused(reason),
+    }
+}
+
+// The page of a book.
+fn book_page(kind: Kind, state: State, buffer: &mut [u8]) -> Stepped
+    requires { ⌜ (state .received ≡ Received.Fine) × (lineRoom ≤ length (now buffer)) ⌝ }
+    ensures { λ r. ⌜ Page (formOf kind) state (r .state) (now (buffer .entry)) (now (buffer .exit)) (r .answer) ⌝ }
+{
+    let mut root = [0u8; 384];
+    let mut way = [0u64; 384];
+    let mut who = [0u64; 384];
+    let mut edge = [0u16; 384];
+    let mut size = [0u8; 6];
+    let book = state.book;
+    let c = book::sound(book, &mut root, &mut way, &mut who, &mut edge, &mut size);
+    let Checked::Fine = c else {
+        return Stepped {
+            answer: refusal(c),
+            state: state,
+        };
+    };
+    let first = state.line;
+    if number_of_lines(kind, book) <= first {
+        return Stepped {
+            answer: Line::Over,
+            state: state,
+        };
+    }
+    let filled = fill(kind, book, first, &root, &way, &edge, buffer);
+    Stepped {
+        answer: Line::Written(filled.end),
+        state: further(state, filled.line),
+    }
+}
+
+// The number of a reason in the table of document 01.
+fn number_of(reason: Reason) -> usize
+    ensures { λ r. ⌜ r ≡ numberOf reason ⌝ }
+{
+    match reason {
+        Reason::Profile => 1,
+        Reason::Bodies => 2,
+        Reason::Body => 3,
+        Reason::SameBody => 4,
+        Reason::Colour => 5,
+        Reason::Full => 6,
+        Reason::Short => 7,
+        Reason::Unsound(_) => 8,
+        Reason::Line => 9,
+    }
+}
+
+// The page of a refused text: one line.
+fn refused_page(state: State, reason: Reason, number: usize, buffer: &mut [u8]) -> Stepped
+    requires { ⌜ (state .received ≡ Received.Refused reason number) × (lineRoom ≤ length (now buffer)) ⌝ }
+    ensures { λ r. ⌜ ((kind : Kind) → Page (formOf kind) state (r .state) (now (buffer .entry)) (now (buffer .exit)) (r .answer)) ⌝ }
+{
+    let first = state.line;
+    if 0 < first {
+        return Stepped {
+            answer: Line::Over,
+            state: state,
+        };
+    }
+    let end = lines::pair_line(buffer, b"refused=", number_of(reason), number);
+    Stepped {
+        answer: Line::Written(end),
+        state: further(state, 1),
+    }
+}
+
+// Check 7 refuses.
+fn short(state: State) -> Stepped
+    ensures { λ r. ⌜ r ≡ record { answer = Line.Refused Reason.Short; state = state } ⌝ }
+{
+    Stepped {
+        answer: Line::Refused(Reason::Short),
+        state: state,
+    }
+}
+
+// As many lines as there are and the buffer has room for. Checks 7, then 8 where the text was received as a book.
+pub fn page(kind: Kind, state: State, buffer: &mut [u8]) -> Stepped
+    ensures { λ r. ⌜ Page (formOf kind) state (r .state) (now (buffer .entry)) (now (buffer .exit)) (r .answer) ⌝ }
+{
+    if buffer.len() < 2048 {
+        return short(state);
+    }
+    let received = state.received;
+    match received {
+        Received::Fine => book_page(kind, state, buffer),
+        Received::Refused(reason, number) => refused_page(state, reason, number, buffer),
+    }
+}
+
+// The next line alone: a page that is lent a line's room. A line is never empty, so that after one there is less room than for another.
+pub fn next(kind: Kind, state: State, buffer: &mut [u8]) -> Stepped
+    ensures { λ r. ⌜ Next (formOf kind) state (r .state) (now (buffer .entry)) (now (buffer .exit)) (r .answer) ⌝ }
+{
+    if buffer.len() < 2048 {
+        return short(state);
+    }
+    page(kind, state, &mut buffer[..2048])
+}
