@@ -2,7 +2,6 @@
 --
 -- A number below 1000 has at most three digits, so with its comma it takes at most four bytes; a number of 64 bits has at most 20.
 -- Assumes nothing.
-use mathlib.Core.Path.{_≡_, ap}
 use mathlib.Core.List.{List, [], _∷_}
 use Prim.Native.Nat.{ℕ, suc, _+_, _*_, _^_, _≤_, _<_}
 use native.Mathlib.Omega.{arith}
@@ -26,6 +25,17 @@ line-not-empty key values = omega (arith, line-length key values)
 
 pub number-line-at-most : (key : List ℕ) (n : ℕ) → n < 2 ^ 64 → length (line key (n ∷ [])) ≤ length key + 21
 number-line-at-most key n h = number-line-length key n 20 (numeral-at-most-20 n h)
+
+pub pair-line-at-most : (key : List ℕ) (one other : ℕ) → one < 2 ^ 64 → other < 2 ^ 64 → length (line key (one ∷ other ∷ [])) ≤ length key + 42
+unfolding listed
+pair-line-at-most key one other h l =
+    omega (
+      arith,
+      line-length key (one ∷ other ∷ []),
+      length-append (numeral one) (comma ∷ numeral other),
+      numeral-at-most-20 one h,
+      numeral-at-most-20 other l,
+    )
 
 -- each number of a list is below 1000
 abbrev pub Numbers : List ℕ → Type 0

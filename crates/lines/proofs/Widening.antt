@@ -1,6 +1,6 @@
 -- What `widen` leaves in the wider list, as its callers use it: the list is as long as it was, and its first n numbers are the n bytes.
 -- Assumes nothing.
-use mathlib.Core.Path.{_≡_, sym, ap, _∙_}
+use mathlib.Core.Path.{_≡_, ap, _∙_}
 use mathlib.Core.List.{List}
 use Prim.Native.Nat.{ℕ, _≤_}
 use native.Mathlib.Omega.{arith}

@@ -4,7 +4,6 @@ ghost use mathlib.Core.Path.{_≡_};
 ghost use Prim.Native.Nat.{_+_, _≤_};
 ghost use lib.ListN.{length};
 ghost use Rattle.rule.specs.Books.{Sound};
-ghost use Rattle.text.specs.Lines.{line};
 ghost use Rattle.text.specs.Sheets.{headText, edgesText, textOf, textRoom};
 ghost use Rattle.text.specs.Puts.{Writes};
 ghost use Rattle.pages.specs.Reads.{edgesOf, sheetOf, Written};

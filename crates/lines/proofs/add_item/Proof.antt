@@ -2,8 +2,6 @@
 use borrow.Author.Needs.{needs}
 use native.Mathlib.Omega.{arith}
 use mathlib.Core.Path.{sym, ap}
-use mathlib.Core.List.{[], _∷_}
-use Prim.Native.Nat.{_+_}
 use lib.ListN.{length}
 use Rattle.text.specs.Lines.{numeral}
 use Rattle.lines.proofs.Adding.{adds-as, adds-adds, adds-left}

@@ -1,10 +1,7 @@
 -- `writer::edges`: its rounds add the lines of the edges one by one (Rounds.antt of crate lines, Sheets.antt).
 use borrow.Author.Needs.{needs}
 use native.Mathlib.Omega.{arith}
-use mathlib.Core.Path.{_≡_}
 use Prim.Native.Nat.{_-_}
-use lib.ListN.{length}
-use Rattle.rule.specs.declared.Book.{Book}
 use Rattle.text.specs.Sheets.{edgesText}
 use Rattle.pages.specs.Reads.{edgesOf}
 use Rattle.lines.proofs.Rounds.{Rounds, rounds-none, rounds-room, rounds-more, rounds-all, rounds-length}

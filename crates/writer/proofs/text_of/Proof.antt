@@ -1,6 +1,5 @@
 -- `writer::text_of`: the head, and then the edges. The text of a sound book fits (Sheets.antt).
 use borrow.Author.Needs.{needs}
-use native.Mathlib.Omega.{arith}
 use mathlib.Core.Path.{sym}
 use denote.Ref.{now}
 use Rattle.text.specs.Sheets.{edgesText}
