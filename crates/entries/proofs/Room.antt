@@ -1,7 +1,7 @@
 -- Room for a circuit and for its line: a circuit is some of the kept edges, of which a sound book has at most k·(n−1), so at most 378, and each has a
 -- number up to 512. So 8 bytes of key, four bytes a number and the LF fit 2,048.
 -- Assumes nothing.
-use mathlib.Core.Path.{_≡_, sym, ap, subst}
+use mathlib.Core.Path.{sym, ap, subst}
 use mathlib.Core.List.{List}
 use Prim.Native.Nat.{ℕ, _≤_}
 use native.Mathlib.Omega.{arith}

@@ -2,17 +2,14 @@
 //
 // Its circuit is that of an edge offered anew between the same bodies and of the same colour. A book that was not grown from empty may hold
 // an edge in no forest that could be kept: then every kept edge is in its circuit, as the definition has it.
-ghost use mathlib.Core.List.{List};
-ghost use Prim.Native.Nat.{ℕ, _≤_};
+ghost use Prim.Native.Nat.{_≤_};
 ghost use lib.ListN.{length};
 ghost use Rattle.rule.specs.Sets.{_<?_, count as counted, at, numbers};
 ghost use Rattle.rule.specs.Books.{designOf, keptOf};
 ghost use Rattle.search.specs.Marks.{Written};
-ghost use Rattle.placing.specs.Seek.{Seekable, Seeks};
 ghost use Rattle.pages.specs.Reports.{ImpliedLine};
 ghost use Rattle.pages.specs.Steps.{lineRoom, Puts};
 ghost use Rattle.entries.specs.Listable.{Listable, HoldsCircuit};
-use placing::Head;
 use placing::Place;
 use rule::Book;
 
@@ -34,52 +31,6 @@ fn all_kept(count: u16, forests: &[u8; 512], list: &mut [u16]) -> usize
     n
 }
 
-// Seeks a place for an edge between u and v. Where there is none, the list holds its circuit.
-fn place_for(
-    book: Book,
-    u: u8,
-    v: u8,
-    colour: u8,
-    root: &[u8; 384],
-    way: &[u64; 384],
-    edge: &[u16; 384],
-    list: &mut [u16],
-) -> Place
-    requires { ⌜ (378 ≤ length (now list)) × Seekable book u v (now root) (now way) (now edge) ⌝ }
-    ensures { λ r. ⌜ ((path : List ℕ) × Seeks book u v colour (now (list .entry)) path (now (list .exit)) r) ⌝ }
-{
-    let head = Head {
-        a: book.a,
-        b: book.b,
-        n: book.n,
-        count: book.count,
-    };
-    let ones = book.ones;
-    let others = book.others;
-    let colours = book.colours;
-    let forests = book.forests;
-    let mut queue = [0u16; 379];
-    let mut from = [0u16; 379];
-    let mut path = [0u16; 379];
-    placing::seek(
-        head,
-        u,
-        v,
-        colour,
-        &ones,
-        &others,
-        &colours,
-        &forests,
-        root,
-        way,
-        edge,
-        &mut queue,
-        &mut from,
-        &mut path,
-        list,
-    )
-}
-
 // The circuit of edge e in the first places of the list, and how many numbers it has.
 fn circuit(
     book: Book,
@@ -98,7 +49,7 @@ fn circuit(
     let colour = book.colours[i];
     let count = book.count;
     let forests = book.forests;
-    let place = place_for(book, u, v, colour, root, way, edge, list);
+    let place = placing::place_for(book, u, v, colour, root, way, edge, list);
     match place {
         Place::Found(n, f) => all_kept(count, &forests, list),
         Place::Stuck(n) => n as usize,

@@ -1,11 +1,13 @@
 // The place of an offered edge, over the lists of a sound book and the tables of its forests (crate tables). Here the search, the path
 // and the shift come together; offer, question and the book reader stand on this.
 ghost use mathlib.Core.Path.{_≡_};
-ghost use Prim.Native.Nat.{_+_, _≤_, _<_};
+ghost use mathlib.Core.List.{List};
+ghost use Prim.Native.Nat.{ℕ, _+_, _≤_, _<_};
 ghost use lib.ListN.{length};
 ghost use Rattle.placing.specs.Seek.{bookOf, Seekable, Seeks};
 ghost use Rattle.placing.specs.Take.{longer, Entered, Takeable, Takes};
 use rule::Answer;
+use rule::Book;
 
 // What a book remembers besides its lists.
 pub struct Head {
@@ -76,6 +78,52 @@ pub fn seek(
             Place::Stuck(m as u16)
         }
     }
+}
+
+// The same for a book. Where there is no place, the list holds the circuit.
+pub fn place_for(
+    book: Book,
+    u: u8,
+    v: u8,
+    colour: u8,
+    root: &[u8; 384],
+    way: &[u64; 384],
+    edge: &[u16; 384],
+    list: &mut [u16],
+) -> Place
+    requires { ⌜ (378 ≤ length (now list)) × Seekable book u v (now root) (now way) (now edge) ⌝ }
+    ensures { λ r. ⌜ ((path : List ℕ) × Seeks book u v colour (now (list .entry)) path (now (list .exit)) r) ⌝ }
+{
+    let head = Head {
+        a: book.a,
+        b: book.b,
+        n: book.n,
+        count: book.count,
+    };
+    let ones = book.ones;
+    let others = book.others;
+    let colours = book.colours;
+    let forests = book.forests;
+    let mut queue = [0u16; 379];
+    let mut from = [0u16; 379];
+    let mut path = [0u16; 379];
+    seek(
+        head,
+        u,
+        v,
+        colour,
+        &ones,
+        &others,
+        &colours,
+        &forests,
+        root,
+        way,
+        edge,
+        &mut queue,
+        &mut from,
+        &mut path,
+        list,
+    )
 }
 
 // The edge between u and v, of a colour, stands in the lists behind the others, in no forest.

@@ -149,36 +149,7 @@ fn sought(
     requires { ⌜ Askable book u v colour (now list) (now root) (now way) (now edge) ⌝ }
     ensures { λ r. ⌜ Question book u v colour (now (list .entry)) (now (list .exit)) r ⌝ }
 {
-    let head = Head {
-        a: book.a,
-        b: book.b,
-        n: book.n,
-        count: book.count,
-    };
-    let ones = book.ones;
-    let others = book.others;
-    let colours = book.colours;
-    let forests = book.forests;
-    let mut queue = [0u16; 379];
-    let mut from = [0u16; 379];
-    let mut path = [0u16; 379];
-    let place = placing::seek(
-        head,
-        u,
-        v,
-        colour,
-        &ones,
-        &others,
-        &colours,
-        &forests,
-        root,
-        way,
-        edge,
-        &mut queue,
-        &mut from,
-        &mut path,
-        list,
-    );
+    let place = placing::place_for(book, u, v, colour, root, way, edge, list);
     match place {
         Place::Found(n, f) => Answer::Kept(n as u16),
         Place::Stuck(n) => Answer::Implied(n),

@@ -9,7 +9,7 @@ use Rattle.rule.specs.Sets.{count}
 use Rattle.theory.proofs.Legal.Sound.{sound-head}
 use Rattle.book.proofs.Figures.{placed}
 use Rattle.placing.specs.declared.Place.{Place}
-use Rattle.placing.specs.declared.Place.the-variants.{Found, Stuck}
+use Rattle.placing.specs.declared.Place.the-variants.{Found}
 use Rattle.placing.specs.Seek.{Seeks}
 use Rattle.entries.proofs.Room.{placed-few}
 use Rattle.entries.proofs.Circling.{asks, found-holds, stuck-holds}
@@ -81,9 +81,6 @@ returns c =
     found-holds (start .args .t1) (start .args .e) (start .pre .1) _ _ _ (found told .0) _ _ _ (c .before .before .all-kept .ensures)
 
 -- none was
-abbrev stuck-at : tie.After-known-told2 → tie.After-place-for
-stuck-at c = c .before .before .before .before .before
-
 enum-known-place-2 : tie.Need-enum-known-place-2
 enum-known-place-2 c = search needs
 
@@ -95,7 +92,7 @@ same-length-2 c = search needs
 
 returns-2 : tie.Need-returns-2
 returns-2 c =
-    let at = stuck-at c in
+    let at = c .before .before .before .before .before in
     let start = start-of at in
     stuck-holds (start .args .t1) (start .args .e) (start .pre .1) (start .args .list .now) (listed-of at) _
     (subst (Sought at) (c .before .place2 .given .1) (at .place-for .ensures .1))

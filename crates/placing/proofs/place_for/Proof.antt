@@ -1,7 +1,7 @@
--- `entries::place_for`: what `placing::seek` says of the book's lists, wherever the path was written.
+-- `placing::place_for`: what `seek` says of the book's lists, wherever the path was written.
 use borrow.Author.Needs.{needs}
-use Rattle.entries.proofs.place_for.Statement.{statement}
-use Rattle.entries.proofs.place_for.Tie as tie
+use Rattle.placing.proofs.place_for.Statement.{statement}
+use Rattle.placing.proofs.place_for.Tie as tie
 
 seek-requires : tie.Need-seek-requires
 seek-requires c κs = search needs
