@@ -5,6 +5,5 @@ pub mod Lines
 pub mod Stepping
 pub mod Calls
 pub mod Texts
-pub mod Ranges
 pub mod Trips
 pub mod Theorems

@@ -1,6 +1,6 @@
 -- The round trip: what was written of a book is read again as a book of the same sheet, and what was read is written again byte by byte.
 --
--- A sound book's sheet is in range, so its text is the text of one sheet, and has no fault (Ranges.antt, crate text). The sheet of a book that was read is
+-- A sound book's sheet is in range, so its text is the text of one sheet, and has no fault (crates writer and text). The sheet of a book that was read is
 -- the one that its text is of (Reading.antt).
 -- Assumes nothing.
 use mathlib.Core.Path.{_≡_, refl, sym, ap, _∙_}
@@ -15,7 +15,7 @@ use Rattle.text.proofs.Answers.{same-sheet, never-both}
 use Rattle.pages.specs.declared.Received.{Received}
 use Rattle.pages.specs.Reads.{sheetOf, Receives, Written}
 use Rattle.settled.proofs.Reading.{reads-sheet}
-use Rattle.settled.proofs.Ranges.{sound-sheet-range}
+use Rattle.writer.proofs.Sheets.{sound-sheet-range}
 
 module _ (B : Book) {buffer buffered : List ℕ} {n : ℕ} (w : Written B buffer buffered (Figure.Number n)) where
   pub written-text : take n buffered ≡ textOf (sheetOf B)
