@@ -1,27 +1,33 @@
-// What only looks at a book: opening, the soundness scan, freedom, dropped and the verdict, and the checks that an offer and a
-// question share. The relations that the contracts cite are those of crate rule, specs/Calls.antt and specs/Reasons.antt.
+// What only looks at a book: opening, the soundness scan, the checks that an offer and a question share, and (in tally.rt) freedom, dropped
+// and the verdict. The relations that the contracts cite are those of crate rule, specs/Calls.antt and specs/Reasons.antt.
 //
 // The scan goes through the edges in order and adds each kept one to the tables of the forests (crate tables), so that a loop shows as an
 // edge whose ends its forest already joins, and the tables stand ready for the search when the book is sound.
+mod tally;
+
+pub use tally::dropped;
+pub use tally::free_of;
+pub use tally::freedom;
+pub use tally::implied_of;
+pub use tally::judge;
+pub use tally::kept;
+pub use tally::no_figure;
+pub use tally::verdict;
 ghost use mathlib.Core.Path.{_≡_};
 ghost use mathlib.Core.Logic.{_↔_};
 ghost use mathlib.Core.List.{List};
 ghost use Prim.Native.Nat.{ℕ, _≤_, _<_};
 ghost use lib.ListN.{length, getD};
-ghost use Rattle.rule.specs.Sets.{Is, In, _<?_, count as counted, at};
-ghost use Rattle.rule.specs.Books.{designOf, keptOf, ColourRange, Sound};
-ghost use Rattle.rule.specs.Figures.{freedom as freedomOf, dropped as droppedOf, verdictOn};
+ghost use Rattle.rule.specs.Sets.{Is, In};
+ghost use Rattle.rule.specs.Books.{ColourRange};
 ghost use Rattle.rule.specs.Reasons.{questionChecks, offerChecks, bookChecks};
-ghost use Rattle.rule.specs.Calls.{newBook, Open, Freedom, Dropped, Judge};
+ghost use Rattle.rule.specs.Calls.{newBook, Open};
 ghost use Rattle.planting.specs.Calls.{Sized};
-ghost use Rattle.book.specs.Checks.{edgeChecks, Holds, Found, figureOf, judgedOf};
+ghost use Rattle.book.specs.Checks.{edgeChecks, Holds, Found};
 ghost use Rattle.book.specs.Scan.{HeadFine, Permits, EdgeFine, Plantable, Planted, Cleared, bookOf, Scannable, Scanned};
 use rule::Book;
 use rule::Done;
-use rule::Figure;
-use rule::Judged;
 use rule::Reason;
-use rule::Verdict;
 
 // ---- numbers in range
 
@@ -331,8 +337,6 @@ pub fn offer_checks(
     Checked::Refused(Reason::Full)
 }
 
-// ---- freedom, dropped, verdict
-
 // Check 8 alone, with tables of its own.
 pub fn sound_alone(book: Book) -> Checked
     ensures { λ r. ⌜ Found (bookChecks book) Unit r ⌝ }
@@ -343,104 +347,4 @@ pub fn sound_alone(book: Book) -> Checked
     let mut edge = [0u16; 384];
     let mut size = [0u8; 6];
     sound(book, &mut root, &mut way, &mut who, &mut edge, &mut size)
-}
-
-// How many of the first edges have a forest.
-pub fn kept(count: u16, forests: &[u8; 512]) -> u16
-    requires { ⌜ count ≤ 512 ⌝ }
-    ensures { λ r. ⌜ r ≡ counted (λ e. 0 <? at (now (forests .entry)) e) count ⌝ }
-{
-    let mut found: u16 = 0;
-    let mut e: u16 = 0;
-    while e < count {
-        if forests[e as usize] != 0 {
-            found = found + 1;
-        }
-        e = e + 1;
-    }
-    found
-}
-
-// The freedom of a sound book, and how many of its edges are implied.
-pub fn free_of(book: Book) -> u16
-    requires { ⌜ Sound book ⌝ }
-    ensures { λ r. ⌜ r ≡ freedomOf (designOf book) (keptOf book) ⌝ }
-{
-    let a = book.a as u16;
-    let b = book.b as u16;
-    let n = book.n as u16;
-    let count = book.count;
-    (a + b) * (n - 1) - kept(count, &book.forests)
-}
-
-pub fn implied_of(book: Book) -> u16
-    requires { ⌜ Sound book ⌝ }
-    ensures { λ r. ⌜ r ≡ droppedOf (designOf book) (keptOf book) ⌝ }
-{
-    let count = book.count;
-    count - kept(count, &book.forests)
-}
-
-// A refusal, handed on.
-pub fn no_figure(c: Checked) -> Figure
-    ensures { λ r. ⌜ r ≡ figureOf c ⌝ }
-{
-    match c {
-        Checked::Fine => Figure::Number(0),
-        Checked::Refused(reason) => Figure::Refused(reason),
-    }
-}
-
-fn no_verdict(c: Checked) -> Judged
-    ensures { λ r. ⌜ r ≡ judgedOf c ⌝ }
-{
-    match c {
-        Checked::Fine => Judged::Verdict(Verdict::Tight),
-        Checked::Refused(reason) => Judged::Refused(reason),
-    }
-}
-
-pub fn judge(free: u16, implied: u16) -> Verdict
-    ensures { λ r. ⌜ r ≡ verdictOn free implied ⌝ }
-{
-    if implied == 0 {
-        if free == 0 {
-            return Verdict::Tight;
-        }
-        return Verdict::Loose;
-    }
-    if free == 0 {
-        return Verdict::OverTight;
-    }
-    Verdict::OverLoose
-}
-
-pub fn freedom(book: Book) -> Figure
-    ensures { λ r. ⌜ Freedom book r ⌝ }
-{
-    let c = sound_alone(book);
-    let Checked::Fine = c else {
-        return no_figure(c);
-    };
-    Figure::Number(free_of(book))
-}
-
-pub fn dropped(book: Book) -> Figure
-    ensures { λ r. ⌜ Dropped book r ⌝ }
-{
-    let c = sound_alone(book);
-    let Checked::Fine = c else {
-        return no_figure(c);
-    };
-    Figure::Number(implied_of(book))
-}
-
-pub fn verdict(book: Book) -> Judged
-    ensures { λ r. ⌜ Judge book r ⌝ }
-{
-    let c = sound_alone(book);
-    let Checked::Fine = c else {
-        return no_verdict(c);
-    };
-    Judged::Verdict(judge(free_of(book), implied_of(book)))
 }

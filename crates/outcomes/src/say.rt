@@ -1,8 +1,6 @@
 // What the calls answer, written behind the name of its case: a word and, where there is one, a number or a list.
 //
 // Moved is not written: it goes with the choice of forests, which document 01 leaves open.
-ghost use mathlib.Core.Path.{_≡_};
-ghost use Rattle.rule.specs.Reasons.{numberOf};
 use rule::Answer;
 use rule::Book;
 use rule::Done;
@@ -19,26 +17,9 @@ fn number(n: u16) {
     io::print_decimal(1, n as u64);
 }
 
-// The number of a reason in the table of document 01.
-fn number_of(reason: Reason) -> u16
-    ensures { λ r. ⌜ r ≡ numberOf reason ⌝ }
-{
-    match reason {
-        Reason::Profile => 1,
-        Reason::Bodies => 2,
-        Reason::Body => 3,
-        Reason::SameBody => 4,
-        Reason::Colour => 5,
-        Reason::Full => 6,
-        Reason::Short => 7,
-        Reason::Unsound(place) => 8,
-        Reason::Line => 9,
-    }
-}
-
 fn refused(reason: Reason) {
     text(b" refused=");
-    number(number_of(reason));
+    io::print_decimal(1, pages::number_of(reason) as u64);
     if let Reason::Unsound(place) = reason {
         text(b",");
         number(place);

@@ -5,19 +5,18 @@
 // circuits are listed. The lines are then written one behind the other, each into the unwritten rest of the buffer.
 //
 // Whether it is the report or the certificate is a parameter: a face for each would only say both functions and their contracts twice.
+mod certificate;
+
 ghost use mathlib.Core.Path.{_≡_};
 ghost use mathlib.Core.List.{[], _∷_, _++_};
 ghost use Prim.Native.Nat.{suc, _≤_, _<_};
 ghost use lib.ListN.{length};
 ghost use Rattle.rule.specs.Books.{designOf, forestOf, keptOf, Sound};
 ghost use Rattle.rule.specs.Figures.{freedom, dropped, verdict};
-ghost use Rattle.rule.specs.Reasons.{numberOf};
 ghost use Rattle.text.specs.Lines.{LF, line};
-ghost use Rattle.text.specs.Sheets.{edgeText};
 ghost use Rattle.text.specs.Puts.{Writes};
 ghost use Rattle.pages.specs.Keys.{key-kept, key-free, key-dropped, key-verdict, wordOf};
-ghost use Rattle.pages.specs.Reads.{edgeOf};
-ghost use Rattle.pages.specs.Reports.{freedomAfter, EdgeLine, GroupsLine, ForestLine};
+ghost use Rattle.pages.specs.Reports.{freedomAfter, EdgeLine, GroupsLine};
 ghost use Rattle.pages.specs.Steps.{Puts, Next, Page, report, certificate, lineRoom, written};
 ghost use Rattle.paging.specs.Kinds.{formOf, lineFrom};
 ghost use Rattle.paging.specs.Lent.{Known, Tally, FullRun};
@@ -170,84 +169,6 @@ fn report_line(
     groups_line(book, buffer)
 }
 
-// ---- the certificate
-
-// The lines a, b, bodies and edges.
-fn head_line(book: Book, i: u16, buffer: &mut [u8]) -> usize
-    requires { ⌜ Sound book × ((i < 4) × (lineRoom ≤ length (now buffer))) ⌝ }
-    ensures { λ r. ⌜ Puts (certificate .Says book i) (now (buffer .entry)) (now (buffer .exit)) r ⌝ }
-{
-    if i == 0 {
-        let a = book.a as usize;
-        return text::put::number_line(buffer, b"a=", a);
-    }
-    if i == 1 {
-        let b = book.b as usize;
-        return text::put::number_line(buffer, b"b=", b);
-    }
-    if i == 2 {
-        let n = book.n as usize;
-        return text::put::number_line(buffer, b"bodies=", n);
-    }
-    let count = book.count as usize;
-    text::put::number_line(buffer, b"edges=", count)
-}
-
-// The edge after e others, as it was given.
-fn edge_line(book: Book, e: u16, buffer: &mut [u8]) -> usize
-    requires { ⌜ Sound book × ((e < book .count) × (lineRoom ≤ length (now buffer))) ⌝ }
-    ensures { λ r. ⌜ Writes (edgeText (edgeOf book (suc e))) (now (buffer .entry)) (now (buffer .exit)) r ⌝ }
-{
-    let at = e as usize;
-    let one = book.ones[at] as usize;
-    let other = book.others[at] as usize;
-    let colour = book.colours[at];
-    lines::edge_line(buffer, one, other, colour)
-}
-
-// The forest of a kept edge, or the circuit of an implied one.
-fn forest_line(
-    book: Book,
-    e: u16,
-    root: &[u8; 384],
-    way: &[u64; 384],
-    edge: &[u16; 384],
-    buffer: &mut [u8],
-) -> usize
-    requires { ⌜ Known book (now root) (now way) (now edge) × ((e < book .count) × (lineRoom ≤ length (now buffer))) ⌝ }
-    ensures { λ r. ⌜ Puts (ForestLine book (λ e. keptOf book) (suc e)) (now (buffer .entry)) (now (buffer .exit)) r ⌝ }
-{
-    let at = e as usize;
-    let forest = book.forests[at] as usize;
-    if forest == 0 {
-        return entries::implied_line(book, e + 1, root, way, edge, buffer);
-    }
-    text::put::number_line(buffer, b"forest=", forest)
-}
-
-// Line i of the certificate, counted from 0: the book text, and then a line for each edge.
-fn certificate_line(
-    book: Book,
-    i: u16,
-    root: &[u8; 384],
-    way: &[u64; 384],
-    edge: &[u16; 384],
-    buffer: &mut [u8],
-) -> usize
-    requires { ⌜ Known book (now root) (now way) (now edge) × ((i < certificate .number book) × (lineRoom ≤ length (now buffer))) ⌝ }
-    ensures { λ r. ⌜ Puts (certificate .Says book i) (now (buffer .entry)) (now (buffer .exit)) r ⌝ }
-{
-    if i < 4 {
-        return head_line(book, i, buffer);
-    }
-    let count = book.count;
-    let e = i - 4;
-    if e < count {
-        return edge_line(book, e, buffer);
-    }
-    forest_line(book, e - count, root, way, edge, buffer)
-}
-
 // ---- a page
 
 // How many lines there are.
@@ -279,7 +200,7 @@ fn line(
 {
     match kind {
         Kind::Report => report_line(book, i, kept, root, way, edge, buffer),
-        Kind::Certificate => certificate_line(book, i, root, way, edge, buffer),
+        Kind::Certificate => certificate::certificate_line(book, i, root, way, edge, buffer),
     }
 }
 
@@ -369,23 +290,6 @@ fn book_page(kind: Kind, state: State, buffer: &mut [u8]) -> Stepped
     }
 }
 
-// The number of a reason in the table of document 01.
-fn number_of(reason: Reason) -> usize
-    ensures { λ r. ⌜ r ≡ numberOf reason ⌝ }
-{
-    match reason {
-        Reason::Profile => 1,
-        Reason::Bodies => 2,
-        Reason::Body => 3,
-        Reason::SameBody => 4,
-        Reason::Colour => 5,
-        Reason::Full => 6,
-        Reason::Short => 7,
-        Reason::Unsound(_) => 8,
-        Reason::Line => 9,
-    }
-}
-
 // The page of a refused text: one line.
 fn refused_page(state: State, reason: Reason, number: usize, buffer: &mut [u8]) -> Stepped
     requires { ⌜ (state .received ≡ Received.Refused reason number) × (lineRoom ≤ length (now buffer)) ⌝ }
@@ -398,7 +302,7 @@ fn refused_page(state: State, reason: Reason, number: usize, buffer: &mut [u8]) 
             state: state,
         };
     }
-    let end = lines::pair_line(buffer, b"refused=", number_of(reason), number);
+    let end = lines::pair_line(buffer, b"refused=", pages::number_of(reason), number);
     Stepped {
         answer: Line::Written(end),
         state: further(state, 1),

@@ -1,10 +1,8 @@
 // For the benchmark: builds the book of a text again and again. Standard input has a letter, four digits and a LF, and then a book text: after k
-// the text is read so many times, with the tables kept between offers; after o it is judged once each time and every edge goes through the public
-// offer, which scans the book first. What is printed is a sum over the books, so that the work cannot be left out.
+// the text is read so many times, with the tables kept between offers; after o it is read once, and then so many times every edge of the book
+// goes through the public offer to a new one, which scans that first. What is printed is a sum over the books, so that the work cannot be left out.
 ghost use Prim.Native.Nat.{_≤_, _<_};
 use rule::Book;
-use text::EdgeLine;
-use text::Judgement;
 
 fn digit(x: u8) -> usize
     ensures { λ r. ⌜ r ≤ 9 ⌝ }
@@ -37,68 +35,56 @@ fn offer(book: Book, one: usize, other: usize, colour: u8) -> Book {
     r.book
 }
 
-// The edges of a text, each by a public offer.
-fn offered(text: &[u8], a: u8, b: u8, n: u8, edges: u16, first: usize) -> Book {
-    let opened = book::open(wide(a), wide(b), wide(n));
+// The edges of a book, each by a public offer to another.
+fn offered(read: Book) -> Book {
+    let opened = book::open(wide(read.a), wide(read.b), wide(read.n));
     let mut book = opened.book;
-    let mut at = first;
-    let mut i = 0;
-    while i < edges {
-        let line = text::edge_at(text, at);
-        match line {
-            EdgeLine::Joins {
-                one,
-                other,
-                colour,
-                next,
-            } => {
-                book = offer(book, one, other, colour);
-                at = next;
-            }
-            EdgeLine::Nothing => at = first,
-        }
+    let mut i: usize = 0;
+    while i < 512 {
+        book = offer(
+            book,
+            wide(read.ones[i]),
+            wide(read.others[i]),
+            read.colours[i],
+        );
         i += 1;
     }
     book
 }
 
-fn by_offers(text: &[u8]) -> Book {
-    let found = text::judge(text);
-    match found {
-        Judgement::Sheet {
-            a,
-            b,
-            n,
-            edges,
-            first,
-        } => offered(text, a, b, n, edges, first),
-        Judgement::Refused(_, _) => book::new_book(0, 0, 0),
-    }
-}
-
-fn by_reading(text: &[u8]) -> Book {
+fn read(text: &[u8]) -> Book {
     let r = reader::read(text);
     r.book
 }
 
-fn one_more(kept: bool, text: &[u8]) -> usize
-    ensures { λ r. ⌜ r ≤ 2805 ⌝ }
-{
-    if kept {
-        figure(by_reading(text))
-    } else {
-        figure(by_offers(text))
-    }
-}
-
-fn repeat(kept: bool, times: usize, text: &[u8]) -> usize {
+// Read so many times.
+fn reads(times: usize, text: &[u8]) -> usize {
     let mut sum = 0;
     let mut i = 0;
     while i < times {
-        sum = (sum + one_more(kept, text)) % 1000003;
+        sum = (sum + figure(read(text))) % 1000003;
         i += 1;
     }
     sum
+}
+
+// Offered so many times.
+fn offers(times: usize, book: Book) -> usize {
+    let mut sum = 0;
+    let mut i = 0;
+    while i < times {
+        sum = (sum + figure(offered(book))) % 1000003;
+        i += 1;
+    }
+    sum
+}
+
+fn repeat(kept: bool, times: usize, text: &[u8]) -> usize {
+    if kept {
+        reads(times, text)
+    } else {
+        offers(times, read(text))
+    }
 }
 
 fn main() {

@@ -1,21 +1,15 @@
 -- `book::asked`: each answer by the tests that led there.
 use borrow.Author.Needs.{needs}
-use mathlib.Core.Path.{_≡_, refl, subst}
+use mathlib.Core.Path.{_≡_, refl}
 use mathlib.Core.Logic.{inl, inr}
-use Prim.Native.Nat.{ℕ, _≤_}
+use Prim.Native.Nat.{_≤_}
 use native.Mathlib.Omega.{arith}
 use Rattle.book.proofs.Said.{refused, granted}
 use Rattle.book.proofs.asked.Statement.{statement}
 use Rattle.book.proofs.asked.Tie as tie
 
-coloured-requires : tie.Need-coloured-requires
-coloured-requires c κs = search needs
-
 returns : tie.Need-returns
 returns c = λ list q. inl (refused _ (c .before .coloured .ensures) (c .if1 .taken), refl, refl)
-
-both-among-requires : tie.Need-both-among-requires
-both-among-requires c κs = search needs
 
 returns-2 : tie.Need-returns-2
 returns-2 c =
@@ -58,13 +52,4 @@ returns-5 c =
     )
 
 pub asked-spec : {M : Type 1} → statement M
-asked-spec =
-    tie.close
-    (tie.spec
-    coloured-requires
-    returns
-    both-among-requires
-    returns-2
-    returns-3
-    returns-4
-    returns-5)
+asked-spec = tie.close (tie.spec (λ c κs. search needs) returns (λ c κs. search needs) returns-2 returns-3 returns-4 returns-5)

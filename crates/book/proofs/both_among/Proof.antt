@@ -5,12 +5,6 @@ use mathlib.Core.Path.{sym, _∙_}
 use Rattle.book.proofs.both_among.Statement.{statement}
 use Rattle.book.proofs.both_among.Tie as tie
 
-among-requires : tie.Need-among-requires
-among-requires c κs = search needs
-
-among-requires-2 : tie.Need-among-requires-2
-among-requires-2 c κs = search needs
-
 returns : tie.Need-returns
 returns c =
     let one = c .before .before .among in
@@ -22,4 +16,4 @@ returns-2 c =
     (λ h. absurd (false≢true (sym (c .if1 .left) ∙ h)), λ h. one .ensures .1 (h .0))
 
 pub both-among-spec : {M : Type 1} → statement M
-both-among-spec = tie.close (tie.spec among-requires among-requires-2 returns returns-2)
+both-among-spec = tie.close (tie.spec (λ c κs. search needs) (λ c κs. search needs) returns returns-2)

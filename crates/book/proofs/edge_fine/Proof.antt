@@ -4,23 +4,14 @@ use Rattle.book.proofs.Said.{refused, granted, no-answer}
 use Rattle.book.proofs.edge_fine.Statement.{statement}
 use Rattle.book.proofs.edge_fine.Tie as tie
 
-among-requires : tie.Need-among-requires
-among-requires c κs = search needs
-
 returns : tie.Need-returns
 returns c = no-answer (λ p. refused _ (c .before .among .ensures) (c .if1 .taken) (p .one))
-
-among-requires-2 : tie.Need-among-requires-2
-among-requires-2 c κs = search needs
 
 returns-2 : tie.Need-returns-2
 returns-2 c = no-answer (λ p. refused _ (c .before .among2 .ensures) (c .if2 .taken) (p .other))
 
 returns-3 : tie.Need-returns-3
 returns-3 c = no-answer (λ p. p .different (c .if3 .taken))
-
-permitted-requires : tie.Need-permitted-requires
-permitted-requires c κs = search needs
 
 returns-4 : tie.Need-returns-4
 returns-4 c =
@@ -40,10 +31,4 @@ pub edge-fine-spec : {M : Type 1} → statement M
 edge-fine-spec =
     tie.close
     (tie.spec
-    among-requires
-    returns
-    among-requires-2
-    returns-2
-    returns-3
-    permitted-requires
-    returns-4)
+    (λ c κs. search needs) returns (λ c κs. search needs) returns-2 returns-3 (λ c κs. search needs) returns-4)

@@ -5,14 +5,8 @@ use Rattle.book.proofs.Said.{refused, granted, no-answer}
 use Rattle.book.proofs.head_fine.Statement.{statement}
 use Rattle.book.proofs.head_fine.Tie as tie
 
-both-among-requires : tie.Need-both-among-requires
-both-among-requires c κs = search needs
-
 returns : tie.Need-returns
 returns c = no-answer (λ p. refused _ (c .before .both-among .ensures) (c .if1 .taken) (p .profile))
-
-among-requires : tie.Need-among-requires
-among-requires c κs = search needs
 
 returns-2 : tie.Need-returns-2
 returns-2 c = no-answer (λ p. refused _ (c .before .among .ensures) (c .if2 .taken) (p .bodies))
@@ -31,5 +25,4 @@ returns-3 c =
     )
 
 pub head-fine-spec : {M : Type 1} → statement M
-head-fine-spec =
-    tie.close (tie.spec both-among-requires returns among-requires returns-2 returns-3)
+head-fine-spec = tie.close (tie.spec (λ c κs. search needs) returns (λ c κs. search needs) returns-2 returns-3)

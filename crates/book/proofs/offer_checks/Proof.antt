@@ -13,15 +13,6 @@ use Rattle.book.proofs.Checks.{refused-first, answered-later}
 use Rattle.book.proofs.offer_checks.Statement.{statement}
 use Rattle.book.proofs.offer_checks.Tie as tie
 
-question-checks-requires : tie.Need-question-checks-requires
-question-checks-requires c κs = search needs
-
-enum-told : tie.Need-enum-told
-enum-told c = search needs
-
-enum-told-2 : tie.Need-enum-told-2
-enum-told-2 c = search needs
-
 returns : tie.Need-returns
 returns c =
     let asks = c .before .before in
@@ -48,5 +39,4 @@ returns-3 c =
     (inl ((λ l. omega (arith, l, c .if1 .left)), refl, refl))
 
 pub offer-checks-spec : {M : Type 1} → statement M
-offer-checks-spec =
-    tie.close (tie.spec question-checks-requires enum-told enum-told-2 returns returns-2 returns-3)
+offer-checks-spec = tie.close (tie.spec (λ c κs. search needs) (λ c. search needs) (λ c. search needs) returns returns-2 returns-3)

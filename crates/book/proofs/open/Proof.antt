@@ -7,22 +7,10 @@ use Rattle.book.proofs.Said.{refused, granted}
 use Rattle.book.proofs.open.Statement.{statement}
 use Rattle.book.proofs.open.Tie as tie
 
-both-among-requires : tie.Need-both-among-requires
-both-among-requires c κs = search needs
-
-new-book-requires : tie.Need-new-book-requires
-new-book-requires c κs = search needs
-
 returns : tie.Need-returns
 returns c =
     let profile = c .before .before in
     (inl (refused _ (profile .both-among .ensures) (c .before .if1 .taken), refl, refl), c .new-book .ensures)
-
-among-requires : tie.Need-among-requires
-among-requires c κs = search needs
-
-new-book-requires-2 : tie.Need-new-book-requires-2
-new-book-requires-2 c κs = search needs
 
 returns-2 : tie.Need-returns-2
 returns-2 c =
@@ -45,9 +33,6 @@ cast-new-book-2 c =
 cast-new-book-3 : tie.Need-cast-new-book-3
 cast-new-book-3 c = omega (arith, granted _ (c .before .among .ensures) (c .if2 .left))
 
-new-book-requires-3 : tie.Need-new-book-requires-3
-new-book-requires-3 c κs = search needs
-
 returns-3 : tie.Need-returns-3
 returns-3 c =
     let bodies = c .before .before in
@@ -60,14 +45,5 @@ pub open-spec : {M : Type 1} → statement M
 open-spec =
     tie.close
     (tie.spec
-    both-among-requires
-    new-book-requires
-    returns
-    among-requires
-    new-book-requires-2
-    returns-2
-    cast-new-book
-    cast-new-book-2
-    cast-new-book-3
-    new-book-requires-3
-    returns-3)
+    (λ c κs. search needs) (λ c κs. search needs) returns (λ c κs. search needs) (λ c κs. search needs) returns-2 cast-new-book
+    cast-new-book-2 cast-new-book-3 (λ c κs. search needs) returns-3)

@@ -1,6 +1,6 @@
 -- `book::permitted`: by the colour.
 use borrow.Author.Needs.{needs}
-use Prim.Native.Nat.{ℕ, _+_}
+use Prim.Native.Nat.{_+_}
 use mathlib.Core.Logic.{_↔_}
 use borrow.Author.Tests.{leb-true, le-leb, eqb-true}
 use Rattle.book.proofs.Edges.{red-permits, black-permits, none-permits}
@@ -12,9 +12,6 @@ returns c =
     let start = c .before in
     let w = red-permits (start .args .a) (start .args .b) (start .args .colour) (start .args .forest) (c .if1 .taken) in
     (λ h. w .0 (leb-true (start .args .forest) (start .args .a) h), λ p. le-leb (start .args .forest) (start .args .a) (w .1 p))
-
-add-result : tie.Need-add-result
-add-result c = search needs
 
 returns-2 : tie.Need-returns-2
 returns-2 c =
@@ -32,4 +29,4 @@ returns-3 c =
     )
 
 pub permitted-spec : {M : Type 1} → statement M
-permitted-spec = tie.close (tie.spec returns add-result returns-2 returns-3)
+permitted-spec = tie.close (tie.spec returns (λ c. search needs) returns-2 returns-3)

@@ -9,9 +9,6 @@ returns c =
     let x = c .before .args in
     nowhere (x .u) (x .v) (x .forest) (x .e) (x .root .now) (x .way .now) (x .who .now) (x .edge .now) (x .size .now) (c .before .pre) (c .if1 .taken)
 
-joined-requires : tie.Need-joined-requires
-joined-requires c κs = search needs
-
 returns-2 : tie.Need-returns-2
 returns-2 c =
     let start = c .before .before .before .before in
@@ -36,4 +33,4 @@ returns-3 c =
     (test .before .before .before .if1 .left) (test .before .joined .result) (test .before .joined .ensures) (test .if2 .left) _ _ _ _ _ (c .add .ensures)
 
 pub plant-spec : {M : Type 1} → statement M
-plant-spec = tie.close (tie.spec returns joined-requires returns-2 add-requires returns-3)
+plant-spec = tie.close (tie.spec returns (λ c κs. search needs) returns-2 add-requires returns-3)

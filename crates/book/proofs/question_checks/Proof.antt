@@ -1,19 +1,10 @@
 -- `book::question_checks`: check 8, and those of the edge behind it.
 use borrow.Author.Needs.{needs}
 use Rattle.rule.specs.Reasons.{bookChecks}
-use Rattle.book.specs.Checks.{Holds, edgeChecks}
+use Rattle.book.specs.Checks.{edgeChecks}
 use Rattle.book.proofs.Checks.{refused-first, answered-later}
 use Rattle.book.proofs.question_checks.Statement.{statement}
 use Rattle.book.proofs.question_checks.Tie as tie
-
-sound-requires : tie.Need-sound-requires
-sound-requires c κs = search needs
-
-enum-told : tie.Need-enum-told
-enum-told c = search needs
-
-enum-told-2 : tie.Need-enum-told-2
-enum-told-2 c = search needs
 
 returns : tie.Need-returns
 returns c =
@@ -21,9 +12,6 @@ returns c =
     let x = sound .before .before .before .before .before .before .args in
     λ list q.
     refused-first (bookChecks (x .book)) (edgeChecks (x .book .n) (x .u) (x .v) (x .colour) list) _ _ (sound .sound .result) _ (c .enum-told2 .given .1) (sound .sound .ensures)
-
-asked-requires : tie.Need-asked-requires
-asked-requires c κs = search needs
 
 returns-2 : tie.Need-returns-2
 returns-2 c =
@@ -35,4 +23,6 @@ returns-2 c =
 
 pub question-checks-spec : {M : Type 1} → statement M
 question-checks-spec =
-    tie.close (tie.spec sound-requires enum-told enum-told-2 returns asked-requires returns-2)
+    tie.close
+    (tie.spec
+    (λ c κs. search needs) (λ c. search needs) (λ c. search needs) returns (λ c κs. search needs) returns-2)

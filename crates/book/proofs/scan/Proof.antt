@@ -1,7 +1,6 @@
 -- `book::scan`: the invariant and each step are those of proofs/Scanning.antt.
 use borrow.Author.Needs.{needs}
 use Prim.Native.Nat.{_-_}
-use native.Mathlib.Omega.{arith}
 use Rattle.rule.specs.declared.Book.{Book}
 use Rattle.book.specs.Scan.{bookOf}
 use Rattle.book.proofs.Said.{refused, granted}
@@ -45,24 +44,6 @@ scan-holds c =
     })
     (begun .begin .ensures) (c .clear .ensures)
 
-cast-i : tie.Need-cast-i Inv-scan μ-scan
-cast-i c = search needs
-
-add-e : tie.Need-add-e Inv-scan μ-scan
-add-e c = search needs
-
-element-copy-out-u : tie.Need-element-copy-out-u Inv-scan μ-scan
-element-copy-out-u c = search needs
-
-element-copy-out-v : tie.Need-element-copy-out-v Inv-scan μ-scan
-element-copy-out-v c = search needs
-
-element-copy-out-forest : tie.Need-element-copy-out-forest Inv-scan μ-scan
-element-copy-out-forest c = search needs
-
-element-copy-out-edge-fine : tie.Need-element-copy-out-edge-fine Inv-scan μ-scan
-element-copy-out-edge-fine c = search needs
-
 edge-fine-requires : tie.Need-edge-fine-requires Inv-scan μ-scan
 edge-fine-requires c κs =
     let start = c .before .before .before .before .before .before .before .before .before .before .before in
@@ -76,9 +57,6 @@ plant-requires c κs =
     plantable (book start) (scan .scan .e) (scan .scan .root) (scan .scan .way) (scan .scan .who) (scan .scan .edge) (scan .scan .size) (scan .scan .inv)
     (test .before .before .before .before .before .before .if1 .left) (start .pre .head)
     (granted {P = FineAt (book start) (scan .scan .e)} (test .before .edge-fine .result) (test .before .edge-fine .ensures) (test .if2 .left))
-
-scan-less : tie.Need-scan-less Inv-scan μ-scan
-scan-less c = search needs
 
 scan-again : tie.Need-scan-again Inv-scan μ-scan
 scan-again c =
@@ -119,21 +97,5 @@ pub scan-spec : {M : Type 1} → statement M
 scan-spec =
     tie.close
     (tie.spec
-    Inv-scan
-    μ-scan
-    begin-requires
-    clear-requires
-    scan-holds
-    cast-i
-    add-e
-    element-copy-out-u
-    element-copy-out-v
-    element-copy-out-forest
-    element-copy-out-edge-fine
-    edge-fine-requires
-    plant-requires
-    scan-less
-    scan-again
-    returns
-    returns-2
-    returns-3)
+    Inv-scan μ-scan begin-requires clear-requires scan-holds (λ c. search needs) (λ c. search needs) (λ c. search needs) (λ c. search needs)
+    (λ c. search needs) (λ c. search needs) edge-fine-requires plant-requires (λ c. search needs) scan-again returns returns-2 returns-3)

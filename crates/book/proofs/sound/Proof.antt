@@ -5,9 +5,6 @@ use Rattle.book.proofs.Checks.{head-rule, bad-head, good-book, bad-edge
 use Rattle.book.proofs.sound.Statement.{statement}
 use Rattle.book.proofs.sound.Tie as tie
 
-head-fine-requires : tie.Need-head-fine-requires
-head-fine-requires c κs = search needs
-
 returns : tie.Need-returns
 returns c = bad-head (c .before .before .args .t1) (refused _ (c .before .head-fine .ensures) (c .if1 .taken))
 
@@ -32,4 +29,4 @@ returns-3 c =
     (c .before .scan .result) (c .if2 .left) (c .before .scan .ensures)
 
 pub sound-spec : {M : Type 1} → statement M
-sound-spec = tie.close (tie.spec head-fine-requires returns scan-requires returns-2 returns-3)
+sound-spec = tie.close (tie.spec (λ c κs. search needs) returns scan-requires returns-2 returns-3)

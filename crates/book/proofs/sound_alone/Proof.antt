@@ -4,11 +4,8 @@ use Rattle.book.proofs.Checks.{found-alone}
 use Rattle.book.proofs.sound_alone.Statement.{statement}
 use Rattle.book.proofs.sound_alone.Tie as tie
 
-sound-requires : tie.Need-sound-requires
-sound-requires c κs = search needs
-
 returns : tie.Need-returns
 returns c = found-alone _ _ (c .sound .result) (c .sound .ensures)
 
 pub sound-alone-spec : {M : Type 1} → statement M
-sound-alone-spec = tie.close (tie.spec sound-requires returns)
+sound-alone-spec = tie.close (tie.spec (λ c κs. search needs) returns)

@@ -20,15 +20,6 @@ abbrev μ-loop : tie.MeasureT-loop
 loop-holds : tie.Need-loop-holds Inv-loop μ-loop
 loop-holds c = (omega arith, none-listed (placed (c .args .forests .now)) _)
 
-cast-f : tie.Need-cast-f Inv-loop μ-loop
-cast-f c = search needs
-
-element-copy-out-f : tie.Need-element-copy-out-f Inv-loop μ-loop
-element-copy-out-f c = search needs
-
-add-e : tie.Need-add-e Inv-loop μ-loop
-add-e c = search needs
-
 -- the list has a place for one number more
 room : (c : tie.Then1 Inv-loop μ-loop)
     → (c .before .before .before .loop .n < length (c .before .before .before .before .args .list .now))
@@ -51,9 +42,6 @@ slice-write-list c = omega (arith, room c)
 add-n : tie.Need-add-n Inv-loop μ-loop
 add-n c = omega (arith, room c .0)
 
-loop-less : tie.Need-loop-less Inv-loop μ-loop
-loop-less c = search needs
-
 loop-again : tie.Need-loop-again Inv-loop μ-loop
 loop-again c =
     let loop = c .before .before .before in
@@ -62,9 +50,6 @@ loop-again c =
       omega arith,
       next-in (placed forests) (loop .loop .e) (loop .loop .inv .1) (has-forest forests (loop .loop .e) (c .if1 .taken)) (start .args .count) (omega arith) (start .pre .1),
     )
-
-loop-less-2 : tie.Need-loop-less-2 Inv-loop μ-loop
-loop-less-2 c = search needs
 
 loop-again-2 : tie.Need-loop-again-2 Inv-loop μ-loop
 loop-again-2 c =
@@ -85,18 +70,5 @@ pub all-kept-spec : {M : Type 1} → statement M
 all-kept-spec =
     tie.close
     (tie.spec
-    Inv-loop
-    μ-loop
-    loop-holds
-    cast-f
-    element-copy-out-f
-    add-e
-    mul-list
-    slice-write-list
-    add-n
-    loop-less
-    loop-again
-    loop-less-2
-    loop-again-2
-    same-length
-    returns)
+    Inv-loop μ-loop loop-holds (λ c. search needs) (λ c. search needs) (λ c. search needs) mul-list slice-write-list add-n
+    (λ c. search needs) loop-again (λ c. search needs) loop-again-2 same-length returns)

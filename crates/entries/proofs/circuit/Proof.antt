@@ -20,9 +20,6 @@ use Rattle.entries.proofs.circuit.Tie as tie
 few-edges : (c : tie.Start) → c .args .e - 1 < 512
 few-edges c = omega (arith, c .pre .1 .place .high, sound-head (c .args .t1) (c .pre .1 .sound) .edges)
 
-sub-i : tie.Need-sub-i
-sub-i c = search needs
-
 element-copy-out-u : tie.Need-element-copy-out-u
 element-copy-out-u c = few-edges (c .before)
 
@@ -50,9 +47,6 @@ Sought c place =
     let i = start-of c .args .e - 1 in
     Seeks book (getD (book .ones) i 0) (getD (book .others) i 0) (getD (book .colours) i 0) (start-of c .args .list .now) (c .place-for .ensures .0) (listed-of c) place
 
-enum-known-place : tie.Need-enum-known-place
-enum-known-place c = search needs
-
 -- a place was found
 abbrev found-at : tie.After-known-told → tie.After-place-for
 found-at c = c .before .before .before .before .before
@@ -71,24 +65,11 @@ all-kept-requires c κs =
     let start = start-of (found-at (c .before .before)) in
     (sound-head (start .args .t1) (start .pre .1 .sound) .edges, room (c .before .before))
 
-same-length : tie.Need-same-length
-same-length c = search needs
-
 returns : tie.Need-returns
 returns c =
     let told = c .before .before .before .before .before in
     let start = start-of (found-at told) in
     found-holds (start .args .t1) (start .args .e) (start .pre .1) _ _ _ (found told .0) _ _ _ (c .before .before .all-kept .ensures)
-
--- none was
-enum-known-place-2 : tie.Need-enum-known-place-2
-enum-known-place-2 c = search needs
-
-cast-result : tie.Need-cast-result
-cast-result c = search needs
-
-same-length-2 : tie.Need-same-length-2
-same-length-2 c = search needs
 
 returns-2 : tie.Need-returns-2
 returns-2 c =
@@ -101,16 +82,5 @@ pub circuit-spec : {M : Type 1} → statement M
 circuit-spec =
     tie.close
     (tie.spec
-    sub-i
-    element-copy-out-u
-    element-copy-out-v
-    element-copy-out-colour
-    place-for-requires
-    enum-known-place
-    all-kept-requires
-    enum-known-place-2
-    cast-result
-    same-length
-    returns
-    same-length-2
-    returns-2)
+    (λ c. search needs) element-copy-out-u element-copy-out-v element-copy-out-colour place-for-requires (λ c. search needs)
+    all-kept-requires (λ c. search needs) (λ c. search needs) (λ c. search needs) returns (λ c. search needs) returns-2)

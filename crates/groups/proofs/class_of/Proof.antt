@@ -16,24 +16,6 @@ abbrev μ-loop : tie.MeasureT-loop
 loop-holds : tie.Need-loop-holds Inv-loop μ-loop
 loop-holds c = (omega arith, with-none (c .args .root .now) (c .args .who .now) (c .args .v))
 
-mul-x : tie.Need-mul-x Inv-loop μ-loop
-mul-x c = search needs
-
-add-x : tie.Need-add-x Inv-loop μ-loop
-add-x c = search needs
-
-sub-x : tie.Need-sub-x Inv-loop μ-loop
-sub-x c = search needs
-
-mul-y : tie.Need-mul-y Inv-loop μ-loop
-mul-y c = search needs
-
-element-copy-out-wide : tie.Need-element-copy-out-wide Inv-loop μ-loop
-element-copy-out-wide c = search needs
-
-wide-requires : tie.Need-wide-requires Inv-loop μ-loop
-wide-requires c κs = search needs
-
 -- the word that is read stands in the table
 inside : (c : tie.After-wide Inv-loop μ-loop) → c .before .before .before .loop .i * 64 + c .wide .result < 384
 inside c =
@@ -50,12 +32,6 @@ mul-word c = record { fits = omega (arith, inside c) }
 
 element-copy-out-word : tie.Need-element-copy-out-word Inv-loop μ-loop
 element-copy-out-word c = inside c
-
-add-i : tie.Need-add-i Inv-loop μ-loop
-add-i c = search needs
-
-loop-less : tie.Need-loop-less Inv-loop μ-loop
-loop-less c = search needs
 
 loop-again : tie.Need-loop-again Inv-loop μ-loop
 loop-again c =
@@ -77,19 +53,5 @@ pub class-of-spec : {M : Type 1} → statement M
 class-of-spec =
     tie.close
     (tie.spec
-    Inv-loop
-    μ-loop
-    loop-holds
-    mul-x
-    add-x
-    sub-x
-    mul-y
-    element-copy-out-wide
-    wide-requires
-    add-y
-    mul-word
-    element-copy-out-word
-    add-i
-    loop-less
-    loop-again
-    returns)
+    Inv-loop μ-loop loop-holds (λ c. search needs) (λ c. search needs) (λ c. search needs) (λ c. search needs) (λ c. search needs)
+    (λ c κs. search needs) add-y mul-word element-copy-out-word (λ c. search needs) (λ c. search needs) loop-again returns)

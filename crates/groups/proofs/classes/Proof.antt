@@ -15,9 +15,6 @@ leaders-requires c κs =
     let pre = c .before .before .before .before .before .before .before .before .before .pre in
     ((pre .1 .0 .1 .1, pre .1 .1 .1), c .before .before .before .shrink .ensures .seated)
 
-same-length : tie.Need-same-length
-same-length c = search needs
-
 returns : tie.Need-returns
 returns c d lent coloured arr =
     let start = c .before .before .before .before .before .before .before .before .before .before .before .before in
@@ -28,4 +25,4 @@ returns c d lent coloured arr =
     (leaders .ensures)
 
 pub classes-spec : {M : Type 1} → statement M
-classes-spec = tie.close (tie.spec shrink-requires leaders-requires same-length returns)
+classes-spec = tie.close (tie.spec shrink-requires leaders-requires (λ c. search needs) returns)

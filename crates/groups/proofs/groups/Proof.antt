@@ -8,18 +8,6 @@ use Rattle.groups.proofs.Refusing.{refused-unsound, refused-short}
 use Rattle.groups.proofs.groups.Statement.{statement}
 use Rattle.groups.proofs.groups.Tie as tie
 
-sound-alone-requires : tie.Need-sound-alone-requires
-sound-alone-requires c κs = tt
-
-enum-told : tie.Need-enum-told
-enum-told c = search needs
-
-enum-told-2 : tie.Need-enum-told-2
-enum-told-2 c = search needs
-
-refused-requires : tie.Need-refused-requires
-refused-requires c κs = tt
-
 returns : tie.Need-returns
 returns c =
     let check = c .before .before .before in
@@ -42,9 +30,6 @@ list-groups-requires c κs =
     let start = check .before .before in
     (passed-sound (start .args .book) (check .sound-alone .result) (c .before .before .enum-told .given .1) (check .sound-alone .ensures), omega (arith, c .before .if1 .left))
 
-same-length : tie.Need-same-length
-same-length c = search needs
-
 returns-3 : tie.Need-returns-3
 returns-3 c = c .before .before .list-groups .ensures
 
@@ -52,12 +37,4 @@ pub groups-spec : {M : Type 1} → statement M
 groups-spec =
     tie.close
     (tie.spec
-    sound-alone-requires
-    enum-told
-    enum-told-2
-    refused-requires
-    returns
-    returns-2
-    list-groups-requires
-    same-length
-    returns-3)
+    (λ c κs. tt) (λ c. search needs) (λ c. search needs) (λ c κs. tt) returns returns-2 list-groups-requires (λ c. search needs) returns-3)

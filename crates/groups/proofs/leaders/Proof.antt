@@ -17,9 +17,6 @@ abbrev μ-loop : tie.MeasureT-loop
 loop-holds : tie.Need-loop-holds Inv-loop μ-loop
 loop-holds c = listing-none
 
-add-class-of : tie.Need-add-class-of Inv-loop μ-loop
-add-class-of c = search needs
-
 class-of-requires : tie.Need-class-of-requires Inv-loop μ-loop
 class-of-requires c κs =
     let start = c .before .before .before in
@@ -39,12 +36,6 @@ cast-list c = record { fits = omega (arith, c .lowest .ensures .small) }
 
 slice-write-list : tie.Need-slice-write-list Inv-loop μ-loop
 slice-write-list c = omega (arith, c .before .before .before .loop .inv .as-long)
-
-add-v : tie.Need-add-v Inv-loop μ-loop
-add-v c = search needs
-
-loop-less : tie.Need-loop-less Inv-loop μ-loop
-loop-less c = search needs
 
 loop-again : tie.Need-loop-again Inv-loop μ-loop
 loop-again c =
@@ -69,17 +60,5 @@ pub leaders-spec : {M : Type 1} → statement M
 leaders-spec =
     tie.close
     (tie.spec
-    Inv-loop
-    μ-loop
-    loop-holds
-    add-class-of
-    class-of-requires
-    lowest-requires
-    add-list
-    cast-list
-    slice-write-list
-    add-v
-    loop-less
-    loop-again
-    same-length
-    returns)
+    Inv-loop μ-loop loop-holds (λ c. search needs) class-of-requires lowest-requires add-list cast-list slice-write-list (λ c. search needs)
+    (λ c. search needs) loop-again same-length returns)

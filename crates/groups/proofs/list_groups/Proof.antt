@@ -9,21 +9,6 @@ use Rattle.groups.proofs.Grouping.{forests-few, book-given, classes-gro
 use Rattle.groups.proofs.list_groups.Statement.{statement}
 use Rattle.groups.proofs.list_groups.Tie as tie
 
-wide-requires : tie.Need-wide-requires
-wide-requires c κs = search needs
-
-wide-requires-2 : tie.Need-wide-requires-2
-wide-requires-2 c κs = search needs
-
-add-k : tie.Need-add-k
-add-k c = search needs
-
-wide-requires-3 : tie.Need-wide-requires-3
-wide-requires-3 c κs = search needs
-
-cast-count : tie.Need-cast-count
-cast-count c = search needs
-
 forests-long : (c : tie.Start) → length (c .args .t1 .forests) ≡ 512
 forests-long c = search needs
 
@@ -38,9 +23,6 @@ classes-requires c κs =
     let bodies : numbers .wide3 .result ≤ 64 = omega (arith, sound-head book sound .bodies .high, numbers .wide3 .ensures) in
     (book-given book sound, ((omega (arith, few), (few, few)), (forests-long start, (bodies, omega (arith, start .pre .1, bodies)))))
 
-same-length : tie.Need-same-length
-same-length c = search needs
-
 returns : tie.Need-returns
 returns c =
     let start = c .before .before .before .before .before .before .before .before .before .before .before .before .before in
@@ -54,11 +36,5 @@ pub list-groups-spec : {M : Type 1} → statement M
 list-groups-spec =
     tie.close
     (tie.spec
-    wide-requires
-    wide-requires-2
-    add-k
-    wide-requires-3
-    cast-count
-    classes-requires
-    same-length
-    returns)
+    (λ c κs. search needs) (λ c κs. search needs) (λ c. search needs) (λ c κs. search needs) (λ c. search needs) classes-requires
+    (λ c. search needs) returns)

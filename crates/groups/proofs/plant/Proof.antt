@@ -13,32 +13,17 @@ Inv-loop ones others left count root₀ who₀ e₀ root who e = Grows count one
 abbrev μ-loop : tie.MeasureT-loop
 μ-loop ones others left count root₀ who₀ e₀ root who e = count - e
 
-begin-requires : tie.Need-begin-requires Inv-loop μ-loop
-begin-requires c κs = search needs
-
 loop-holds : tie.Need-loop-holds Inv-loop μ-loop
 loop-holds c = grows-none (c .begin .ensures)
 
 element-copy-out-wide : tie.Need-element-copy-out-wide Inv-loop μ-loop
 element-copy-out-wide c = omega (arith, c .before .before .before .before .before .pre .0 .lent .most, c .loop-test .taken)
 
-wide-requires : tie.Need-wide-requires Inv-loop μ-loop
-wide-requires c κs = search needs
-
 element-copy-out-wide-2 : tie.Need-element-copy-out-wide-2 Inv-loop μ-loop
 element-copy-out-wide-2 c = omega (arith, c .before .before .before .before .before .before .before .pre .0 .lent .most, c .before .before .loop-test .taken)
 
-wide-requires-2 : tie.Need-wide-requires-2 Inv-loop μ-loop
-wide-requires-2 c κs = search needs
-
 element-copy-out-wide-3 : tie.Need-element-copy-out-wide-3 Inv-loop μ-loop
 element-copy-out-wide-3 c = omega (arith, c .before .before .before .before .before .before .before .before .before .pre .0 .lent .most, c .before .before .before .before .loop-test .taken)
-
-wide-requires-3 : tie.Need-wide-requires-3 Inv-loop μ-loop
-wide-requires-3 c κs = search needs
-
-add-e : tie.Need-add-e Inv-loop μ-loop
-add-e c = search needs
 
 -- what was read of the edge
 edge-read : (c : tie.After-wide3 Inv-loop μ-loop)
@@ -51,15 +36,9 @@ unite-requires : tie.Need-unite-requires Inv-loop μ-loop
 unite-requires c κs =
     grows-ready (c .before .before .before .before .before .before .before .before .before .before .loop .inv) (c .before .before .before .before .before .before .before .before .before .loop-test .taken) (c .before .before .before .before .before .before .before .before .before .before .before .before .before .before .pre .0) (edge-read (c .before .before .before)) (c .before .before .if1 .taken)
 
-loop-less : tie.Need-loop-less Inv-loop μ-loop
-loop-less c = search needs
-
 loop-again : tie.Need-loop-again Inv-loop μ-loop
 loop-again c =
     grows-more (c .before .before .before .before .before .before .before .before .before .before .before .loop .inv) (c .before .before .before .before .before .before .before .before .before .before .loop-test .taken) (c .before .before .before .before .before .before .before .before .before .before .before .before .before .before .before .pre .0) (edge-read (c .before .before .before .before)) (c .before .before .before .if1 .taken) (c .unite .ensures)
-
-loop-less-2 : tie.Need-loop-less-2 Inv-loop μ-loop
-loop-less-2 c = search needs
 
 loop-again-2 : tie.Need-loop-again-2 Inv-loop μ-loop
 loop-again-2 c = grows-past (c .before .before .before .before .before .before .before .before .loop .inv) (c .before .before .before .before .before .before .before .loop-test .taken) (sym (c .before .before .before .before .before .wide .ensures) ∙ c .if1 .left)
@@ -71,20 +50,6 @@ pub plant-spec : {M : Type 1} → statement M
 plant-spec =
     tie.close
     (tie.spec
-    Inv-loop
-    μ-loop
-    begin-requires
-    loop-holds
-    element-copy-out-wide
-    wide-requires
-    element-copy-out-wide-2
-    wide-requires-2
-    element-copy-out-wide-3
-    wide-requires-3
-    add-e
-    unite-requires
-    loop-less
-    loop-again
-    loop-less-2
-    loop-again-2
-    returns)
+    Inv-loop μ-loop (λ c κs. search needs) loop-holds element-copy-out-wide (λ c κs. search needs) element-copy-out-wide-2
+    (λ c κs. search needs) element-copy-out-wide-3 (λ c κs. search needs) (λ c. search needs) unite-requires (λ c. search needs) loop-again
+    (λ c. search needs) loop-again-2 returns)

@@ -8,24 +8,6 @@ use Rattle.groups.proofs.Reading.{either-most, stays-at}
 use Rattle.groups.proofs.remains.Statement.{statement}
 use Rattle.groups.proofs.remains.Tie as tie
 
-element-copy-out-limit : tie.Need-element-copy-out-limit
-element-copy-out-limit c = search needs
-
-limit-requires : tie.Need-limit-requires
-limit-requires c κs = search needs
-
-element-copy-out-wide : tie.Need-element-copy-out-wide
-element-copy-out-wide c = search needs
-
-wide-requires : tie.Need-wide-requires
-wide-requires c κs = search needs
-
-element-copy-out-wide-2 : tie.Need-element-copy-out-wide-2
-element-copy-out-wide-2 c = search needs
-
-wide-requires-2 : tie.Need-wide-requires-2
-wide-requires-2 c κs = search needs
-
 same-labels-requires : tie.Need-same-labels-requires
 unfolding at
 same-labels-requires c κs =
@@ -50,11 +32,5 @@ pub remains-spec : {M : Type 1} → statement M
 remains-spec =
     tie.close
     (tie.spec
-    element-copy-out-limit
-    limit-requires
-    element-copy-out-wide
-    wide-requires
-    element-copy-out-wide-2
-    wide-requires-2
-    same-labels-requires
-    returns)
+    (λ c. search needs) (λ c κs. search needs) (λ c. search needs) (λ c κs. search needs) (λ c. search needs) (λ c κs. search needs)
+    same-labels-requires returns)

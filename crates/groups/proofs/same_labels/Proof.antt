@@ -26,14 +26,6 @@ abbrev μ-loop : tie.MeasureT-loop
 loop-holds : tie.Need-loop-holds Inv-loop μ-loop
 loop-holds c = (omega arith, same-none (c .args .root .now) (c .args .u) (c .args .v))
 
--- src/lib.rt:14:13
-add-i : tie.Need-add-i Inv-loop μ-loop
-add-i c = search needs
-
--- src/lib.rt:15:13
-joined-requires : tie.Need-joined-requires Inv-loop μ-loop
-joined-requires c κs = search needs
-
 -- src/lib.rt:16:13
 returns : tie.Need-returns Inv-loop μ-loop
 returns c =
@@ -43,10 +35,6 @@ returns c =
     let apart : (label root (i + 1) (start .args .u) =? label root (i + 1) (start .args .v)) ≡ false =
     sym (c .before .joined .ensures) ∙ not-true _ (c .if1 .taken) in
     sym (is-false _ (λ h. false≢true (sym apart ∙ same-at root (start .args .u) (start .args .v) (start .args .j) (i + 1) (omega arith) h)))
-
--- src/lib.rt:13:5
-loop-less : tie.Need-loop-less Inv-loop μ-loop
-loop-less c = search needs
 
 -- src/lib.rt:13:5
 loop-again : tie.Need-loop-again Inv-loop μ-loop
@@ -74,12 +62,4 @@ pub same-labels-spec : {M : Type 1} → statement M
 same-labels-spec =
     tie.close
     (tie.spec
-    Inv-loop
-    μ-loop
-    loop-holds
-    add-i
-    joined-requires
-    returns
-    loop-less
-    loop-again
-    returns-2)
+    Inv-loop μ-loop loop-holds (λ c. search needs) (λ c κs. search needs) returns (λ c. search needs) loop-again returns-2)

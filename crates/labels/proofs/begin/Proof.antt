@@ -24,27 +24,6 @@ loop-holds c =
       words = λ k l. absurd (omega arith);
     }
 
-cast-root : tie.Need-cast-root Inv-loop μ-loop
-cast-root c = search needs
-
-element-write-root : tie.Need-element-write-root Inv-loop μ-loop
-element-write-root c = search needs
-
-one-requires : tie.Need-one-requires Inv-loop μ-loop
-one-requires c κs = search needs
-
-mul-who : tie.Need-mul-who Inv-loop μ-loop
-mul-who c = search needs
-
-element-write-who : tie.Need-element-write-who Inv-loop μ-loop
-element-write-who c = search needs
-
-add-i : tie.Need-add-i Inv-loop μ-loop
-add-i c = search needs
-
-loop-less : tie.Need-loop-less Inv-loop μ-loop
-loop-less c = search needs
-
 loop-again : tie.Need-loop-again Inv-loop μ-loop
 loop-again c =
     let inv = c .before .before .loop .inv in
@@ -78,15 +57,5 @@ pub begin-spec : {M : Type 1} → statement M
 begin-spec =
     tie.close
     (tie.spec
-    Inv-loop
-    μ-loop
-    loop-holds
-    cast-root
-    element-write-root
-    one-requires
-    mul-who
-    element-write-who
-    add-i
-    loop-less
-    loop-again
-    returns)
+    Inv-loop μ-loop loop-holds (λ c. search needs) (λ c. search needs) (λ c κs. search needs) (λ c. search needs) (λ c. search needs)
+    (λ c. search needs) (λ c. search needs) loop-again returns)

@@ -12,29 +12,8 @@ Inv-loop f bodies new root₀ base left₀ root left = Left (λ _. new) base bod
 abbrev μ-loop : tie.MeasureT-loop
 μ-loop f bodies new root₀ base left₀ root left = left
 
-sub-base : tie.Need-sub-base Inv-loop μ-loop
-sub-base c = search needs
-
-mul-base : tie.Need-mul-base Inv-loop μ-loop
-mul-base c = search needs
-
 loop-holds : tie.Need-loop-holds Inv-loop μ-loop
 loop-holds c = left-all (λ _. c .args .new) (begins (c .args .f)) (c .args .bodies) (c .args .root .now)
-
-lowest-requires : tie.Need-lowest-requires Inv-loop μ-loop
-lowest-requires c κs = search needs
-
-add-root : tie.Need-add-root Inv-loop μ-loop
-add-root c = search needs
-
-element-write-root : tie.Need-element-write-root Inv-loop μ-loop
-element-write-root c = search needs
-
-without-requires : tie.Need-without-requires Inv-loop μ-loop
-without-requires c κs = search needs
-
-loop-less : tie.Need-loop-less Inv-loop μ-loop
-loop-less c = search needs
 
 loop-again : tie.Need-loop-again Inv-loop μ-loop
 loop-again c =
@@ -53,15 +32,5 @@ pub relabel-spec : {M : Type 1} → statement M
 relabel-spec =
     tie.close
     (tie.spec
-    Inv-loop
-    μ-loop
-    sub-base
-    mul-base
-    loop-holds
-    lowest-requires
-    add-root
-    element-write-root
-    without-requires
-    loop-less
-    loop-again
-    returns)
+    Inv-loop μ-loop (λ c. search needs) (λ c. search needs) loop-holds (λ c κs. search needs) (λ c. search needs) (λ c. search needs)
+    (λ c κs. search needs) (λ c. search needs) loop-again returns)

@@ -12,9 +12,6 @@ use Rattle.lines.proofs.add_item.Tie as tie
 add-number-requires : tie.Need-add-number-requires
 add-number-requires c κs = let d = c .before .before .before in omega (arith, d .pre, ap length (item-first (d .args .i) (d .args .x) (c .before .if1 .taken)))
 
-same-length : tie.Need-same-length
-same-length c = search needs
-
 returns : tie.Need-returns
 returns c =
     let d = c .before .before in
@@ -31,9 +28,6 @@ add-number-requires-2 c κs =
     adds-left (numeral (a .args .x)) (d .add-byte .ensures)
     (omega (arith, a .pre, ap length (item-later (a .args .i) (a .args .x) (d .before .before .if1 .left))))
 
-same-length-2 : tie.Need-same-length-2
-same-length-2 c = search needs
-
 returns-2 : tie.Need-returns-2
 returns-2 c =
     let e = c .before .before in
@@ -45,10 +39,4 @@ pub add-item-spec : {M : Type 1} → statement M
 add-item-spec =
     tie.close
     (tie.spec
-    add-number-requires
-    same-length
-    returns
-    add-byte-requires
-    add-number-requires-2
-    same-length-2
-    returns-2)
+    add-number-requires (λ c. search needs) returns add-byte-requires add-number-requires-2 (λ c. search needs) returns-2)

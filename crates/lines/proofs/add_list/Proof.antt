@@ -23,15 +23,6 @@ loop-holds c =
     let a = c .before .before in
     rounds-none (numbers-pieces (now (a .args .list)) (a .args .n) (a .pre .0)) (omega (arith, a .pre .1))
 
-mul-wide : tie.Need-mul-wide Inv-loop μ-loop
-mul-wide c = search needs
-
-shared-slice-read-wide : tie.Need-shared-slice-read-wide Inv-loop μ-loop
-shared-slice-read-wide c = search needs
-
-wide-requires : tie.Need-wide-requires Inv-loop μ-loop
-wide-requires c κs = search needs
-
 add-item-requires : tie.Need-add-item-requires Inv-loop μ-loop
 add-item-requires c κs =
     let t = c .before .before .before in
@@ -39,12 +30,6 @@ add-item-requires c κs =
     let a = l .before .before .before in
     rounds-room (numbers-pieces (now (a .args .list)) (a .args .n) (a .pre .0)) (l .loop .inv) (a .pre .1)
     (t .loop-test .taken) (item (l .loop .i) (c .wide .result)) (ap (item (l .loop .i)) (c .wide .ensures))
-
-add-i : tie.Need-add-i Inv-loop μ-loop
-add-i c = search needs
-
-loop-less : tie.Need-loop-less Inv-loop μ-loop
-loop-less c = search needs
 
 loop-again : tie.Need-loop-again Inv-loop μ-loop
 loop-again c =
@@ -69,5 +54,5 @@ returns c =
 
 pub add-list-spec : {M : Type 1} → statement M
 add-list-spec =
-    let one = tie.spec Inv-loop μ-loop loop-holds mul-wide shared-slice-read-wide wide-requires add-item-requires in
-    tie.close (one add-i loop-less loop-again same-length returns)
+    let one = tie.spec Inv-loop μ-loop loop-holds (λ c. search needs) (λ c. search needs) (λ c κs. search needs) add-item-requires in
+    tie.close (one (λ c. search needs) (λ c. search needs) loop-again same-length returns)

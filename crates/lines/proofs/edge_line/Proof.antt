@@ -8,14 +8,8 @@ use Rattle.lines.proofs.Edges.{edge-red, edge-black}
 use Rattle.lines.proofs.edge_line.Statement.{statement}
 use Rattle.lines.proofs.edge_line.Tie as tie
 
-slice-aggregate-pair-line : tie.Need-slice-aggregate-pair-line
-slice-aggregate-pair-line c = search needs
-
 pair-line-requires : tie.Need-pair-line-requires
 pair-line-requires c κs = let a = c .before .before .before .before in omega (arith, a .pre, ap length (edge-red (a .args .one) (a .args .other) (a .args .colour) (c .before .before .if1 .taken)))
-
-same-length : tie.Need-same-length
-same-length c = search needs
 
 returns : tie.Need-returns
 returns c =
@@ -24,14 +18,8 @@ returns c =
     let a = i .before .before .args in
     writes-as (sym (edge-red (a .one) (a .other) (a .colour) (i .if1 .taken))) (d .pair-line .ensures)
 
-slice-aggregate-pair-line-2 : tie.Need-slice-aggregate-pair-line-2
-slice-aggregate-pair-line-2 c = search needs
-
 pair-line-requires-2 : tie.Need-pair-line-requires-2
 pair-line-requires-2 c κs = let a = c .before .before .before .before in omega (arith, a .pre, ap length (edge-black (a .args .one) (a .args .other) (a .args .colour) (c .before .before .if1 .left)))
-
-same-length-2 : tie.Need-same-length-2
-same-length-2 c = search needs
 
 returns-2 : tie.Need-returns-2
 returns-2 c =
@@ -44,11 +32,5 @@ pub edge-line-spec : {M : Type 1} → statement M
 edge-line-spec =
     tie.close
     (tie.spec
-    slice-aggregate-pair-line
-    pair-line-requires
-    same-length
-    returns
-    slice-aggregate-pair-line-2
-    pair-line-requires-2
-    same-length-2
+    (λ c. search needs) pair-line-requires (λ c. search needs) returns (λ c. search needs) pair-line-requires-2 (λ c. search needs)
     returns-2)

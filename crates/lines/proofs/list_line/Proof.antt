@@ -28,9 +28,6 @@ add-byte-requires c κs =
     let d = e .before .before .before .before in
     end-left (d .bytes .ensures) (e .add-list .ensures) (d .before .before .before .before .before .pre .1)
 
-same-length : tie.Need-same-length
-same-length c = search needs
-
 returns : tie.Need-returns
 unfolding line
 returns c =
@@ -40,4 +37,4 @@ returns c =
     three-parts (d .bytes .ensures) (e .add-list .ensures) (f .add-byte .ensures)
 
 pub list-line-spec : {M : Type 1} → statement M
-list-line-spec = tie.close (tie.spec bytes-requires add-list-requires add-byte-requires same-length returns)
+list-line-spec = tie.close (tie.spec bytes-requires add-list-requires add-byte-requires (λ c. search needs) returns)

@@ -56,9 +56,6 @@ add-byte-requires c κs =
     let more = writes-left (LF ∷ []) so-far (room-all (now (a .args .key)) (a .args .one) (a .args .other) (now (a .args .buffer)) (a .pre)) in
     omega arith
 
-same-length : tie.Need-same-length
-same-length c = search needs
-
 returns : tie.Need-returns
 returns c =
     let g = c .before .before in
@@ -70,12 +67,4 @@ returns c =
     writes-as (sym (pair-parts (now (a .key)) (a .one) (a .other))) (writes-adds so-far (g .add-byte .ensures))
 
 pub pair-line-spec : {M : Type 1} → statement M
-pair-line-spec =
-    tie.close
-    (tie.spec
-    bytes-requires
-    add-item-requires
-    add-item-requires-2
-    add-byte-requires
-    same-length
-    returns)
+pair-line-spec = tie.close (tie.spec bytes-requires add-item-requires add-item-requires-2 add-byte-requires (λ c. search needs) returns)

@@ -19,14 +19,8 @@ abbrev μ-loop : tie.MeasureT-loop
 loop-holds : tie.Need-loop-holds Inv-loop μ-loop
 loop-holds c = copied-none _ _
 
-shared-slice-read-wide : tie.Need-shared-slice-read-wide Inv-loop μ-loop
-shared-slice-read-wide c = search needs
-
 cast-wide : tie.Need-cast-wide Inv-loop μ-loop
 cast-wide c = omega (arith, c .shared-slice-known .given (c .before .before .loop .i))
-
-mul-wide : tie.Need-mul-wide Inv-loop μ-loop
-mul-wide c = search needs
 
 slice-write-wide : tie.Need-slice-write-wide Inv-loop μ-loop
 slice-write-wide c =
@@ -34,12 +28,6 @@ slice-write-wide c =
     let a = l .before in
     let long = length-take-le (a .args .n) (now (a .args .list)) (a .pre .0) in
     copied-room (l .loop .inv) (omega (arith, c .before .loop-test .taken)) (omega (arith, a .pre .1))
-
-add-i : tie.Need-add-i Inv-loop μ-loop
-add-i c = search needs
-
-loop-less : tie.Need-loop-less Inv-loop μ-loop
-loop-less c = search needs
 
 loop-again : tie.Need-loop-again Inv-loop μ-loop
 loop-again c =
@@ -66,15 +54,5 @@ pub widen-spec : {M : Type 1} → statement M
 widen-spec =
     tie.close
     (tie.spec
-    Inv-loop
-    μ-loop
-    loop-holds
-    shared-slice-read-wide
-    cast-wide
-    mul-wide
-    slice-write-wide
-    add-i
-    loop-less
-    loop-again
-    same-length
-    returns)
+    Inv-loop μ-loop loop-holds (λ c. search needs) cast-wide (λ c. search needs) slice-write-wide (λ c. search needs) (λ c. search needs)
+    loop-again same-length returns)

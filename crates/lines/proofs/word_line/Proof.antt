@@ -21,9 +21,6 @@ add-byte-requires c κs =
     let d = e .before .before .before .before in
     end-left (d .bytes .ensures) (e .add-bytes .ensures) (d .before .before .before .before .before .pre)
 
-same-length : tie.Need-same-length
-same-length c = search needs
-
 returns : tie.Need-returns
 returns c =
     let f = c .before .before in
@@ -32,4 +29,4 @@ returns c =
     three-parts (d .bytes .ensures) (e .add-bytes .ensures) (f .add-byte .ensures)
 
 pub word-line-spec : {M : Type 1} → statement M
-word-line-spec = tie.close (tie.spec bytes-requires add-bytes-requires add-byte-requires same-length returns)
+word-line-spec = tie.close (tie.spec bytes-requires add-bytes-requires add-byte-requires (λ c. search needs) returns)

@@ -4,30 +4,6 @@ use Rattle.moving.proofs.Walking.{exchange-done}
 use Rattle.moving.proofs.exchange.Statement.{statement}
 use Rattle.moving.proofs.exchange.Tie as tie
 
-read-requires : tie.Need-read-requires
-read-requires c κs = search needs
-
-read-requires-2 : tie.Need-read-requires-2
-read-requires-2 c κs = search needs
-
-read-requires-3 : tie.Need-read-requires-3
-read-requires-3 c κs = search needs
-
-cast-swap : tie.Need-cast-swap
-cast-swap c = search needs
-
-cast-swap-2 : tie.Need-cast-swap-2
-cast-swap-2 c = search needs
-
-cast-swap-3 : tie.Need-cast-swap-3
-cast-swap-3 c = search needs
-
-swap-requires : tie.Need-swap-requires
-swap-requires c κs = search needs
-
-store-requires : tie.Need-store-requires
-store-requires c κs = search needs
-
 returns : tie.Need-returns
 returns c =
     let swap = c .before .before in
@@ -41,12 +17,5 @@ pub exchange-spec : {M : Type 1} → statement M
 exchange-spec =
     tie.close
     (tie.spec
-    read-requires
-    read-requires-2
-    read-requires-3
-    cast-swap
-    cast-swap-2
-    cast-swap-3
-    swap-requires
-    store-requires
-    returns)
+    (λ c κs. search needs) (λ c κs. search needs) (λ c κs. search needs) (λ c. search needs) (λ c. search needs) (λ c. search needs)
+    (λ c κs. search needs) (λ c κs. search needs) returns)

@@ -4,14 +4,8 @@ use Rattle.moving.proofs.Walking.{at-place}
 use Rattle.moving.proofs.read.Statement.{statement}
 use Rattle.moving.proofs.read.Tie as tie
 
-sub-result : tie.Need-sub-result
-sub-result c = search needs
-
-element-copy-out-result : tie.Need-element-copy-out-result
-element-copy-out-result c = search needs
-
 returns : tie.Need-returns
 returns c = at-place (c .before .args .list .now) (c .before .args .e) (c .before .pre .0 .low)
 
 pub read-spec : {M : Type 1} → statement M
-read-spec = tie.close (tie.spec sub-result element-copy-out-result returns)
+read-spec = tie.close (tie.spec (λ c. search needs) (λ c. search needs) returns)

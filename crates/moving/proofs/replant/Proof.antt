@@ -16,9 +16,6 @@ abbrev μ-loop : tie.MeasureT-loop
 loop-holds : tie.Need-loop-holds Inv-loop μ-loop
 loop-holds c t = walking-start t
 
-sub-i : tie.Need-sub-i Inv-loop μ-loop
-sub-i c = search needs
-
 mul-y : tie.Need-mul-y Inv-loop μ-loop
 mul-y c = let few = c .before .loop .inv (c .before .before .pre) .places in let most = c .before .before .pre .places in search needs
 
@@ -30,9 +27,6 @@ exchange-requires c κs =
     let loop = c .before .before .before .before .before in
     let t = loop .before .pre in
     can-step t (loop .loop .forests) (loop .loop .way) (loop .loop .edge) (loop .loop .i) (loop .loop .x) (omega arith) (loop .loop .inv t)
-
-loop-less : tie.Need-loop-less Inv-loop μ-loop
-loop-less c = search needs
 
 loop-again : tie.Need-loop-again Inv-loop μ-loop
 loop-again c t =
@@ -51,12 +45,6 @@ read-requires-2 c κs =
     let loop = c .before .before in
     let t = loop .before .pre in
     (last-number t (loop .loop .forests) (loop .loop .way) (loop .loop .edge) (loop .loop .i) (loop .loop .x) (omega arith) (loop .loop .inv t), t .drawn .others-long)
-
-cast-add : tie.Need-cast-add Inv-loop μ-loop
-cast-add c = search needs
-
-cast-add-2 : tie.Need-cast-add-2 Inv-loop μ-loop
-cast-add-2 c = search needs
 
 add-requires : tie.Need-add-requires Inv-loop μ-loop
 add-requires c κs =
@@ -87,19 +75,5 @@ pub replant-spec : {M : Type 1} → statement M
 replant-spec =
     tie.close
     (tie.spec
-    Inv-loop
-    μ-loop
-    loop-holds
-    sub-i
-    mul-y
-    element-copy-out-y
-    exchange-requires
-    loop-less
-    loop-again
-    read-requires
-    read-requires-2
-    cast-add
-    cast-add-2
-    add-requires
-    store-requires
-    returns)
+    Inv-loop μ-loop loop-holds (λ c. search needs) mul-y element-copy-out-y exchange-requires (λ c. search needs) loop-again read-requires
+    read-requires-2 (λ c. search needs) (λ c. search needs) add-requires store-requires returns)

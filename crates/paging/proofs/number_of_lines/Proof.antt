@@ -7,16 +7,10 @@ use Rattle.paging.specs.Kinds.{formOf}
 use Rattle.paging.proofs.number_of_lines.Statement.{statement}
 use Rattle.paging.proofs.number_of_lines.Tie as tie
 
-enum-told : tie.Need-enum-told
-enum-told c = search needs
-
 add-result : tie.Need-add-result
 add-result c =
     let few = sound-head (c .before .before .args .book) (c .before .before .pre) .edges in
     search (needs, few)
-
-enum-told-2 : tie.Need-enum-told-2
-enum-told-2 c = search needs
 
 add-result-2 : tie.Need-add-result-2
 add-result-2 c =
@@ -35,13 +29,4 @@ returns-2 : tie.Need-returns-2
 returns-2 c = sym (ap (λ (kind : Kind). formOf kind .number (c .before .before .args .book)) (c .enum-told2 .given .1))
 
 pub number-of-lines-spec : {M : Type 1} → statement M
-number-of-lines-spec =
-    tie.close
-    (tie.spec
-    enum-told
-    add-result
-    enum-told-2
-    add-result-2
-    add-result-3
-    returns
-    returns-2)
+number-of-lines-spec = tie.close (tie.spec (λ c. search needs) add-result (λ c. search needs) add-result-2 add-result-3 returns returns-2)

@@ -5,55 +5,25 @@ use Rattle.paging.proofs.Says.{report-edge, report-free, report-dropped
 use Rattle.paging.proofs.report_line.Statement.{statement}
 use Rattle.paging.proofs.report_line.Tie as tie
 
-report-edge-requires : tie.Need-report-edge-requires
-report-edge-requires c κs = search needs
-
-same-length : tie.Need-same-length
-same-length c = search needs
-
 returns : tie.Need-returns
 returns c =
     let start = c .before .before .before .before .before .before in
     report-edge (start .args .book) (start .args .i) (c .before .before .before .before .if1 .taken) (c .before .before .report-edge .ensures)
-
-free-line-requires : tie.Need-free-line-requires
-free-line-requires c κs = search needs
-
-same-length-2 : tie.Need-same-length-2
-same-length-2 c = search needs
 
 returns-2 : tie.Need-returns-2
 returns-2 c =
     let start = c .before .before .before .before .before .before .before in
     report-free (start .args .book) (start .args .i) (omega (arith, c .before .before .before .before .if2 .taken, c .before .before .before .before .before .if1 .left)) (c .before .before .free-line .ensures)
 
-dropped-line-requires : tie.Need-dropped-line-requires
-dropped-line-requires c κs = search needs
-
-same-length-3 : tie.Need-same-length-3
-same-length-3 c = search needs
-
 returns-3 : tie.Need-returns-3
 returns-3 c =
     let start = c .before .before .before .before .before .before .before .before in
     report-dropped (start .args .book) (start .args .i) (omega (arith, c .before .before .before .before .if3 .taken, c .before .before .before .before .before .before .if1 .left)) (c .before .before .dropped-line .ensures)
 
-judged-line-requires : tie.Need-judged-line-requires
-judged-line-requires c κs = search needs
-
-same-length-4 : tie.Need-same-length-4
-same-length-4 c = search needs
-
 returns-4 : tie.Need-returns-4
 returns-4 c =
     let start = c .before .before .before .before .before .before .before .before .before in
     report-judged (start .args .book) (start .args .i) (omega (arith, c .before .before .before .before .if4 .taken, c .before .before .before .before .before .before .before .if1 .left)) (c .before .before .judged-line .ensures)
-
-groups-line-requires : tie.Need-groups-line-requires
-groups-line-requires c κs = search needs
-
-same-length-5 : tie.Need-same-length-5
-same-length-5 c = search needs
 
 returns-5 : tie.Need-returns-5
 returns-5 c =
@@ -65,18 +35,5 @@ pub report-line-spec : {M : Type 1} → statement M
 report-line-spec =
     tie.close
     (tie.spec
-    report-edge-requires
-    same-length
-    returns
-    free-line-requires
-    same-length-2
-    returns-2
-    dropped-line-requires
-    same-length-3
-    returns-3
-    judged-line-requires
-    same-length-4
-    returns-4
-    groups-line-requires
-    same-length-5
-    returns-5)
+    (λ c κs. search needs) (λ c. search needs) returns (λ c κs. search needs) (λ c. search needs) returns-2 (λ c κs. search needs)
+    (λ c. search needs) returns-3 (λ c κs. search needs) (λ c. search needs) returns-4 (λ c κs. search needs) (λ c. search needs) returns-5)

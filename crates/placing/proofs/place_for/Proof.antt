@@ -3,12 +3,6 @@ use borrow.Author.Needs.{needs}
 use Rattle.placing.proofs.place_for.Statement.{statement}
 use Rattle.placing.proofs.place_for.Tie as tie
 
-seek-requires : tie.Need-seek-requires
-seek-requires c κs = search needs
-
-same-length : tie.Need-same-length
-same-length c = search needs
-
 returns : tie.Need-returns
 returns c =
     let start = c .before .before .before .before .before .before .before .before .before .before .before .before .before .before .before .before in
@@ -16,4 +10,4 @@ returns c =
     (seek .last .1 .1 .1 .1 .1 .1 .1 .1 .1 .1 .1 .1 .1 .0, seek .ensures .3 (start .pre .1))
 
 pub place-for-spec : {M : Type 1} → statement M
-place-for-spec = tie.close (tie.spec seek-requires same-length returns)
+place-for-spec = tie.close (tie.spec (λ c κs. search needs) (λ c. search needs) returns)

@@ -24,15 +24,6 @@ book c = bookOf (c .args .head) (c .args .ones .now) (c .args .others .now) (c .
 abbrev Task : tie.Start → Type 0
 Task c = Seekable (book c) (c .args .u) (c .args .v) (c .args .root .now) (c .args .way .now) (c .args .edge .now)
 
-cast-a : tie.Need-cast-a
-cast-a c = search needs
-
-cast-k : tie.Need-cast-k
-cast-k c = search needs
-
-add-k : tie.Need-add-k
-add-k c = search needs
-
 add-number : tie.Need-add-number
 add-number c = let few = sound-head (book (c .before .before .before .before)) (c .before .before .before .before .pre .4 .sound) .edges in search needs
 
@@ -40,9 +31,6 @@ search-requires : tie.Need-search-requires
 search-requires c κs =
     let start = c .before .before .before .before .before .before in
     (start .pre .0, start .pre .1, sought (book start) (start .args .u) (start .args .v) (start .args .colour) (start .pre .4) (start .args .head .count + 1) (omega arith))
-
-enum-known-r : tie.Need-enum-known-r
-enum-known-r c = search needs
 
 -- after the search
 abbrev start-of : tie.After-search → tie.Start
@@ -122,9 +110,6 @@ stuck-at c = c .before .before .before
 stuck-come : (c : tie.After-known-told2) → Task (start-of (stuck-at c)) → Come (stuck-at c) (Stuck (c .before .r2 .given .0 .0))
 stuck-come c s = subst (Come (stuck-at c)) (c .before .r2 .given .1) (after-search (stuck-at c) s)
 
-enum-known-r-2 : tie.Need-enum-known-r-2
-enum-known-r-2 c = search needs
-
 circuit-requires : tie.Need-circuit-requires
 circuit-requires c κs =
     let told = c .before .before in
@@ -152,9 +137,6 @@ cast-t37 c =
     let small = fails (c .before .before) (start-of (stuck-at (c .before .before .before .before .before)) .pre .4) .1 in
     search (needs, small)
 
-same-length : tie.Need-same-length
-same-length c = search needs
-
 returns-2 : tie.Need-returns-2
 returns-2 c =
     let told = c .before .before .before .before .before in
@@ -166,17 +148,5 @@ pub seek-spec : {M : Type 1} → statement M
 seek-spec =
     tie.close
     (tie.spec
-    cast-a
-    cast-k
-    add-k
-    add-number
-    search-requires
-    enum-known-r
-    trail-requires
-    cast-t33
-    enum-known-r-2
-    circuit-requires
-    cast-t37
-    returns
-    same-length
-    returns-2)
+    (λ c. search needs) (λ c. search needs) (λ c. search needs) add-number search-requires (λ c. search needs) trail-requires cast-t33
+    (λ c. search needs) circuit-requires cast-t37 returns (λ c. search needs) returns-2)

@@ -56,9 +56,6 @@ enter-requires c κs =
 abbrev sought-at : tie.After-enter → tie.After-seek
 sought-at c = c .before .before .before .before .before .before .before
 
-enum-known-s : tie.Need-enum-known-s
-enum-known-s c = search needs
-
 -- where there is a place
 abbrev found-at : tie.After-known-told → tie.After-enter
 found-at c = c .before .before .before
@@ -88,9 +85,6 @@ cast-t42 c =
     let few = found told (start-of (sought-at (found-at told)) .pre .3) .0 .few in
     search (needs, few)
 
-same-length : tie.Need-same-length
-same-length c = search needs
-
 returns : tie.Need-returns
 returns c =
     let told = c .before .before .before .before .before .before .before .before .before .before in
@@ -118,12 +112,6 @@ stuck-at c = c .before .before .before
 stuck : (c : tie.After-known-told2) → Task (start-of (sought-at (stuck-at c))) → Sought (sought-at (stuck-at c)) (Stuck (c .before .s2 .given .0 .0))
 stuck c t = subst (Sought (sought-at (stuck-at c))) (c .before .s2 .given .1) (sought (sought-at (stuck-at c)) t)
 
-enum-known-s-2 : tie.Need-enum-known-s-2
-enum-known-s-2 c = search needs
-
-same-length-2 : tie.Need-same-length-2
-same-length-2 c = search needs
-
 returns-2 : tie.Need-returns-2
 returns-2 c =
     let at = sought-at (stuck-at c) in
@@ -139,14 +127,5 @@ pub take-spec : {M : Type 1} → statement M
 take-spec =
     tie.close
     (tie.spec
-    seek-requires
-    enter-requires
-    enum-known-s
-    add-replant
-    replant-requires
-    cast-t42
-    enum-known-s-2
-    same-length
-    returns
-    same-length-2
-    returns-2)
+    seek-requires enter-requires (λ c. search needs) add-replant replant-requires cast-t42 (λ c. search needs) (λ c. search needs) returns
+    (λ c. search needs) returns-2)

@@ -13,38 +13,8 @@ Inv-loop f bodies c way₀ base left₀ way left = Left (λ w. bitXor w c) base 
 abbrev μ-loop : tie.MeasureT-loop
 μ-loop f bodies c way₀ base left₀ way left = left
 
-sub-base : tie.Need-sub-base Inv-loop μ-loop
-sub-base c = search needs
-
-mul-base : tie.Need-mul-base Inv-loop μ-loop
-mul-base c = search needs
-
 loop-holds : tie.Need-loop-holds Inv-loop μ-loop
 loop-holds c = left-all (λ w. bitXor w (c .args .c)) (begins (c .args .f)) (c .args .bodies) (c .args .way .now)
-
-lowest-requires : tie.Need-lowest-requires Inv-loop μ-loop
-lowest-requires c κs = search needs
-
-add-i : tie.Need-add-i Inv-loop μ-loop
-add-i c = search needs
-
-mul-way : tie.Need-mul-way Inv-loop μ-loop
-mul-way c = search needs
-
-element-copy-out-way : tie.Need-element-copy-out-way Inv-loop μ-loop
-element-copy-out-way c = search needs
-
-mul-way-2 : tie.Need-mul-way-2 Inv-loop μ-loop
-mul-way-2 c = search needs
-
-element-write-way : tie.Need-element-write-way Inv-loop μ-loop
-element-write-way c = search needs
-
-without-requires : tie.Need-without-requires Inv-loop μ-loop
-without-requires c κs = search needs
-
-loop-less : tie.Need-loop-less Inv-loop μ-loop
-loop-less c = search needs
 
 loop-again : tie.Need-loop-again Inv-loop μ-loop
 loop-again c =
@@ -63,18 +33,5 @@ pub change-spec : {M : Type 1} → statement M
 change-spec =
     tie.close
     (tie.spec
-    Inv-loop
-    μ-loop
-    sub-base
-    mul-base
-    loop-holds
-    lowest-requires
-    add-i
-    mul-way
-    element-copy-out-way
-    mul-way-2
-    element-write-way
-    without-requires
-    loop-less
-    loop-again
-    returns)
+    Inv-loop μ-loop (λ c. search needs) (λ c. search needs) loop-holds (λ c κs. search needs) (λ c. search needs) (λ c. search needs)
+    (λ c. search needs) (λ c. search needs) (λ c. search needs) (λ c κs. search needs) (λ c. search needs) loop-again returns)

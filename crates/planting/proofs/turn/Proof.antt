@@ -1,7 +1,6 @@
 -- `planting::turn`: each place of the row in turn gets its word changed.
 use borrow.Author.Needs.{needs}
-use mathlib.Core.Path.{sym, ap, _∙_, subst}
-use mathlib.Core.List.{List}
+use mathlib.Core.Path.{sym, _∙_, subst}
 use Prim.Native.Nat.{ℕ, _+_, _-_}
 use native.Mathlib.Omega.{arith}
 use lib.ListN.{set}
@@ -17,38 +16,8 @@ Inv-loop f j c way₀ base t₀ way t = Passed (turnedBy j c) base way₀ way t
 abbrev μ-loop : tie.MeasureT-loop
 μ-loop f j c way₀ base t₀ way t = 64 - t
 
-sub-base : tie.Need-sub-base Inv-loop μ-loop
-sub-base c = search needs
-
-mul-base : tie.Need-mul-base Inv-loop μ-loop
-mul-base c = search needs
-
 loop-holds : tie.Need-loop-holds Inv-loop μ-loop
 loop-holds c = passed-none (turnedBy (c .args .j) (c .args .c)) (begins (c .args .f)) (c .args .way .now)
-
-add-i : tie.Need-add-i Inv-loop μ-loop
-add-i c = search needs
-
-mul-turned : tie.Need-mul-turned Inv-loop μ-loop
-mul-turned c = search needs
-
-element-copy-out-turned : tie.Need-element-copy-out-turned Inv-loop μ-loop
-element-copy-out-turned c = search needs
-
-turned-requires : tie.Need-turned-requires Inv-loop μ-loop
-turned-requires c κs = search needs
-
-mul-way : tie.Need-mul-way Inv-loop μ-loop
-mul-way c = search needs
-
-element-write-way : tie.Need-element-write-way Inv-loop μ-loop
-element-write-way c = search needs
-
-add-t : tie.Need-add-t Inv-loop μ-loop
-add-t c = search needs
-
-loop-less : tie.Need-loop-less Inv-loop μ-loop
-loop-less c = search needs
 
 loop-again : tie.Need-loop-again Inv-loop μ-loop
 loop-again c =
@@ -71,18 +40,5 @@ pub turn-spec : {M : Type 1} → statement M
 turn-spec =
     tie.close
     (tie.spec
-    Inv-loop
-    μ-loop
-    sub-base
-    mul-base
-    loop-holds
-    add-i
-    mul-turned
-    element-copy-out-turned
-    turned-requires
-    mul-way
-    element-write-way
-    add-t
-    loop-less
-    loop-again
-    returns)
+    Inv-loop μ-loop (λ c. search needs) (λ c. search needs) loop-holds (λ c. search needs) (λ c. search needs) (λ c. search needs)
+    (λ c κs. search needs) (λ c. search needs) (λ c. search needs) (λ c. search needs) (λ c. search needs) loop-again returns)

@@ -7,9 +7,6 @@ use Rattle.planting.specs.Calls.{turnedBy}
 use Rattle.planting.proofs.turned.Statement.{statement}
 use Rattle.planting.proofs.turned.Tie as tie
 
-has-requires : tie.Need-has-requires
-has-requires c κs = search needs
-
 returns : tie.Need-returns
 unfolding turnedBy
 returns c =
@@ -23,4 +20,4 @@ returns-2 c =
     sym (ap (λ (b : Bool). cond b (bitXor (start .args .word) (start .args .c)) (start .args .word)) (sym (c .before .has .ensures) ∙ c .if1 .left))
 
 pub turned-spec : {M : Type 1} → statement M
-turned-spec = tie.close (tie.spec has-requires returns returns-2)
+turned-spec = tie.close (tie.spec (λ c κs. search needs) returns returns-2)

@@ -22,9 +22,6 @@ loop-holds c t =
     reaching-begins (standing (c .args .edge .now) (c .args .base)) (t .edges) (t .most) (c .args .size) (c .args .place) (c .args .word) (c .args .queue .now)
     (c .args .from .now) (t .carried) (t .room) (c .pre .1) (c .pre .2)
 
-lowest-requires : tie.Need-lowest-requires Inv-loop μ-loop
-lowest-requires c κs = search needs
-
 -- the turn of a bit: what is known of the edges passed, and that there is room for one more
 so-far : (c : tie.After-lowest Inv-loop μ-loop)
     → (c .before .before .loop .n < 379) × (c .before .before .before .args .size ≤ c .before .before .loop .n) × (length (c .before .before .loop .queue) ≡ 379)
@@ -34,15 +31,6 @@ so-far c =
       omega (arith, r .came .counts),
       laid-length (r .came .waits) ∙ c .before .before .before .pre .1,
     )
-
-add-i : tie.Need-add-i Inv-loop μ-loop
-add-i c = search needs
-
-mul-wait : tie.Need-mul-wait Inv-loop μ-loop
-mul-wait c = search needs
-
-element-copy-out-wait : tie.Need-element-copy-out-wait Inv-loop μ-loop
-element-copy-out-wait c = search needs
 
 wait-requires : tie.Need-wait-requires Inv-loop μ-loop
 wait-requires c κs = let s = so-far (c .before .before) in (s .1, s .0, s .2)
@@ -56,12 +44,6 @@ element-write-from c = omega (arith, so-far (c .before .before .before) .0)
 add-n : tie.Need-add-n Inv-loop μ-loop
 add-n c = omega (arith, so-far (c .before .before .before) .0)
 
-without-requires : tie.Need-without-requires Inv-loop μ-loop
-without-requires c κs = search needs
-
-loop-less : tie.Need-loop-less Inv-loop μ-loop
-loop-less c = search needs
-
 loop-again : tie.Need-loop-again Inv-loop μ-loop
 loop-again c t =
     let at = c .before .before .before .before .before .before in
@@ -74,18 +56,5 @@ pub reach-spec : {M : Type 1} → statement M
 reach-spec =
     tie.close
     (tie.spec
-    Inv-loop
-    μ-loop
-    loop-holds
-    lowest-requires
-    add-i
-    mul-wait
-    element-copy-out-wait
-    wait-requires
-    mul-from
-    element-write-from
-    add-n
-    without-requires
-    loop-less
-    loop-again
-    returns)
+    Inv-loop μ-loop loop-holds (λ c κs. search needs) (λ c. search needs) (λ c. search needs) (λ c. search needs) wait-requires mul-from
+    element-write-from add-n (λ c κs. search needs) (λ c. search needs) loop-again returns)

@@ -11,9 +11,6 @@ joined-requires c κs = (one-of-six (c .pre .0) (c .pre .1 .0), ends-are (c .pre
 path-requires : tie.Need-path-requires
 path-requires c κs = (one-of-six (c .before .before .pre .0) (c .before .before .pre .1 .0), ends-are (c .before .before .pre .0))
 
-sub-g : tie.Need-sub-g
-sub-g c = search needs
-
 mul-old : tie.Need-mul-old
 mul-old c = omega (arith, one-of-six (c .before .before .before .pre .0) (c .before .before .before .pre .1 .0))
 
@@ -59,15 +56,5 @@ pub try-forest-spec : {M : Type 1} → statement M
 try-forest-spec =
     tie.close
     (tie.spec
-    joined-requires
-    path-requires
-    sub-g
-    mul-old
-    element-copy-out-old
-    mul-seen
-    element-write-seen
-    mul-reach
-    cast-reach
-    reach-requires
-    returns
-    returns-2)
+    joined-requires path-requires (λ c. search needs) mul-old element-copy-out-old mul-seen element-write-seen mul-reach cast-reach
+    reach-requires returns returns-2)

@@ -24,12 +24,6 @@ abbrev μ-loop : tie.MeasureT-loop
 loop-holds : tie.Need-loop-holds Inv-loop μ-loop
 loop-holds c = (omega arith, λ t _ _. none-tried t)
 
-add-f : tie.Need-add-f Inv-loop μ-loop
-add-f c = search needs
-
-loop-less : tie.Need-loop-less Inv-loop μ-loop
-loop-less c = search needs
-
 loop-again : tie.Need-loop-again Inv-loop μ-loop
 loop-again c = (omega arith, λ t last own. own-passed t (c .before .before .loop .tried) (c .before .before .loop .inv .1 t last own) (own ∙ sym (c .if1 .taken)))
 
@@ -41,9 +35,6 @@ try-forest-requires c κs =
     let own = at .before .pre .1 .1 in
     (waits-on t (at .loop .tried) (at .loop .inv .1 t last own), (omega arith, λ q. c .before .before .before .if1 .left (sym q ∙ own)))
 
-enum-known-t : tie.Need-enum-known-t Inv-loop μ-loop
-enum-known-t c = search needs
-
 returns : tie.Need-returns Inv-loop μ-loop
 returns c t last own =
     let turn = c .before .before .before .before .before .before .before in
@@ -53,12 +44,6 @@ returns c t last own =
     (next-found t (at .loop .tried) a
     (subst (Tells _ _ _) (c .before .t .given .1)
     (c .before .before .before .try-forest .ensures (waits-on t (at .loop .tried) a) (omega arith) (λ q. turn .if1 .left (sym q ∙ own)))))
-
-enum-known-t-2 : tie.Need-enum-known-t-2 Inv-loop μ-loop
-enum-known-t-2 c = search needs
-
-loop-less-2 : tie.Need-loop-less-2 Inv-loop μ-loop
-loop-less-2 c = search needs
 
 loop-again-2 : tie.Need-loop-again-2 Inv-loop μ-loop
 loop-again-2 c =
@@ -79,16 +64,5 @@ pub try-forests-spec : {M : Type 1} → statement M
 try-forests-spec =
     tie.close
     (tie.spec
-    Inv-loop
-    μ-loop
-    loop-holds
-    add-f
-    loop-less
-    loop-again
-    try-forest-requires
-    enum-known-t
-    returns
-    enum-known-t-2
-    loop-less-2
-    loop-again-2
-    returns-2)
+    Inv-loop μ-loop loop-holds (λ c. search needs) (λ c. search needs) loop-again try-forest-requires (λ c. search needs) returns
+    (λ c. search needs) (λ c. search needs) loop-again-2 returns-2)

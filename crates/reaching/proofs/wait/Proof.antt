@@ -16,50 +16,17 @@ abbrev μ-loop : tie.MeasureT-loop
 loop-holds : tie.Need-loop-holds Inv-loop μ-loop
 loop-holds c = (c .pre .0, omega arith, refl)
 
-sub-before : tie.Need-sub-before Inv-loop μ-loop
-sub-before c = search needs
-
-mul-before : tie.Need-mul-before Inv-loop μ-loop
-mul-before c = search needs
-
-element-copy-out-before : tie.Need-element-copy-out-before Inv-loop μ-loop
-element-copy-out-before c = search needs
-
-mul-queue : tie.Need-mul-queue Inv-loop μ-loop
-mul-queue c = search needs
-
-element-write-queue : tie.Need-element-write-queue Inv-loop μ-loop
-element-write-queue c = search needs
-
 returns : tie.Need-returns Inv-loop μ-loop
 returns c =
     let at = c .before .before .before .loop in
     let args = c .before .before .before .before .args in
     takes-in (args .e) (args .first) (args .size) (at .q) (args .queue .now) (at .queue) (at .inv .2) (λ _. c .if1 .taken) (omega arith)
 
-mul-queue-2 : tie.Need-mul-queue-2 Inv-loop μ-loop
-mul-queue-2 c = search needs
-
-element-write-queue-2 : tie.Need-element-write-queue-2 Inv-loop μ-loop
-element-write-queue-2 c = search needs
-
-sub-q : tie.Need-sub-q Inv-loop μ-loop
-sub-q c = search needs
-
-loop-less : tie.Need-loop-less Inv-loop μ-loop
-loop-less c = search needs
-
 loop-again : tie.Need-loop-again Inv-loop μ-loop
 loop-again c =
     let at = c .before .before .before .loop in
     let args = c .before .before .before .before .args in
     (omega arith, omega arith, sym (waited-moves (args .e) (args .first) (at .q) (at .queue) (c .before .before .loop-test .taken) (c .if1 .left)) ∙ at .inv .2)
-
-mul-queue-3 : tie.Need-mul-queue-3 Inv-loop μ-loop
-mul-queue-3 c = search needs
-
-element-write-queue-3 : tie.Need-element-write-queue-3 Inv-loop μ-loop
-element-write-queue-3 c = search needs
 
 returns-2 : tie.Need-returns-2 Inv-loop μ-loop
 returns-2 c =
@@ -71,20 +38,6 @@ pub wait-spec : {M : Type 1} → statement M
 wait-spec =
     tie.close
     (tie.spec
-    Inv-loop
-    μ-loop
-    loop-holds
-    sub-before
-    mul-before
-    element-copy-out-before
-    mul-queue
-    element-write-queue
-    returns
-    mul-queue-2
-    element-write-queue-2
-    sub-q
-    loop-less
-    loop-again
-    mul-queue-3
-    element-write-queue-3
+    Inv-loop μ-loop loop-holds (λ c. search needs) (λ c. search needs) (λ c. search needs) (λ c. search needs) (λ c. search needs) returns
+    (λ c. search needs) (λ c. search needs) (λ c. search needs) (λ c. search needs) loop-again (λ c. search needs) (λ c. search needs)
     returns-2)

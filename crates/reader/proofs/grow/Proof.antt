@@ -42,9 +42,6 @@ at-end : {text : List ℕ} {m a b n count : ℕ} {ones others colours forests : 
 at-end {text} {m} {a} {b} {n} {count} {ones} {others} {colours} {forests} e r =
     subst (λ (k : ℕ). Reads text (bookOf (record { a = a; b = b; n = n; count = k }) ones others colours forests)) e r
 
-begin-requires : tie.Need-begin-requires Inv-loop μ-loop
-begin-requires c κs = search needs
-
 loop-holds : tie.Need-loop-holds Inv-loop μ-loop
 unfolding newBook
 loop-holds c =
@@ -54,20 +51,11 @@ loop-holds c =
     record { root-long = begun .root-long; way-long = refl; who-long = begun .who-long; edge-long = refl; size-long = refl } in
     (refl, refl, refl, refl, grows-none (start .pre) _ _ _ _ _ size begun no-slot)
 
-slice-aggregate-take-line : tie.Need-slice-aggregate-take-line Inv-loop μ-loop
-slice-aggregate-take-line c = search needs
-
 take-line-requires : tie.Need-take-line-requires Inv-loop μ-loop
 take-line-requires c κs =
     let test = c .before .before .before .before .before .before .before .before .before .before .before .before .before in
     let inv = test .before .loop .inv in
     (inv .0, inv .1, inv .2, omega (arith, inv .3), record { number = _; more = test .loop-test .taken; growing = inv .4 })
-
-add-count : tie.Need-add-count Inv-loop μ-loop
-add-count c = search needs
-
-loop-less : tie.Need-loop-less Inv-loop μ-loop
-loop-less c = search needs
 
 loop-again : tie.Need-loop-again Inv-loop μ-loop
 loop-again c =
@@ -85,13 +73,5 @@ pub grow-spec : {M : Type 1} → statement M
 grow-spec =
     tie.close
     (tie.spec
-    Inv-loop
-    μ-loop
-    begin-requires
-    loop-holds
-    slice-aggregate-take-line
-    take-line-requires
-    add-count
-    loop-less
-    loop-again
-    returns)
+    Inv-loop μ-loop (λ c κs. search needs) loop-holds (λ c. search needs) take-line-requires (λ c. search needs) (λ c. search needs)
+    loop-again returns)

@@ -1,18 +1,11 @@
 -- `reader::take_line`: the edge that is due is read, passes the checks of an offer, and is taken (proofs/Lines.antt).
 use borrow.Author.Needs.{needs}
 use mathlib.Core.Path.{_≡_, refl, sym, _∙_}
-use native.Mathlib.Omega.{arith}
 use Rattle.text.specs.declared.EdgeLine.the-variants.{Joins}
 use Rattle.text.specs.Readings.{readEdge}
 use Rattle.reader.proofs.Lines.{line-small, line-takeable, line-grows}
 use Rattle.reader.proofs.take_line.Statement.{statement}
 use Rattle.reader.proofs.take_line.Tie as tie
-
-edge-at-requires : tie.Need-edge-at-requires
-edge-at-requires c κs = search needs
-
-enum-known-line : tie.Need-enum-known-line
-enum-known-line c = search needs
 
 -- the line that was read
 abbrev start-of : tie.After-known-told → tie.Start
@@ -41,12 +34,6 @@ take-requires c κs =
     let pre = start .pre in
     (pre .0, pre .1, pre .2, line-takeable (pre .4 .growing) (start .args .list .now) (pre .4 .more) (pre .3) _ (joined read))
 
-enum-told : tie.Need-enum-told
-enum-told c = search needs
-
-same-length : tie.Need-same-length
-same-length c = search needs
-
 returns : tie.Need-returns
 returns c =
     let take = c .before .before in
@@ -72,12 +59,4 @@ pub take-line-spec : {M : Type 1} → statement M
 take-line-spec =
     tie.close
     (tie.spec
-    edge-at-requires
-    enum-known-line
-    cast-take
-    cast-take-2
-    take-requires
-    enum-told
-    same-length
-    returns
-    returns-2)
+    (λ c κs. search needs) (λ c. search needs) cast-take cast-take-2 take-requires (λ c. search needs) (λ c. search needs) returns returns-2)

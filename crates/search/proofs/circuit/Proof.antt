@@ -15,13 +15,10 @@ list-marked-requires c κs =
     let start = c .before .before .before .before .before in
     markings (start .pre .1) (c .before .before .mark .ensures) (start .pre .0)
 
-same-length : tie.Need-same-length
-same-length c = search needs
-
 returns : tie.Need-returns
 returns c t =
     let marked = c .before .before .before .before .before .mark .ensures in
     others-listed t marked (c .before .before .list-marked .ensures (markings t marked (c .before .before .before .before .before .before .before .before .pre .0)))
 
 pub circuit-spec : {M : Type 1} → statement M
-circuit-spec = tie.close (tie.spec mark-requires list-marked-requires same-length returns)
+circuit-spec = tie.close (tie.spec mark-requires list-marked-requires (λ c. search needs) returns)

@@ -20,18 +20,6 @@ abbrev μ-loop : tie.MeasureT-loop
 loop-holds : tie.Need-loop-holds Inv-loop μ-loop
 loop-holds c = (omega arith, λ t. no-word (c .before .args .marks .now) t)
 
-mul-list-word : tie.Need-mul-list-word Inv-loop μ-loop
-mul-list-word c = search needs
-
-cast-list-word : tie.Need-cast-list-word Inv-loop μ-loop
-cast-list-word c = search needs
-
-mul-list-word-2 : tie.Need-mul-list-word-2 Inv-loop μ-loop
-mul-list-word-2 c = search needs
-
-element-copy-out-list-word : tie.Need-element-copy-out-list-word Inv-loop μ-loop
-element-copy-out-list-word c = search needs
-
 list-word-requires : tie.Need-list-word-requires Inv-loop μ-loop
 list-word-requires c κs =
     let at = c .before .before .before in
@@ -39,12 +27,6 @@ list-word-requires c κs =
     let t = at .before .before .pre in
     let r = at .loop .inv .1 t in
     (omega arith, word-comes marks t (at .loop .i) (laid-length (r .laid)) (r .counts))
-
-add-i : tie.Need-add-i Inv-loop μ-loop
-add-i c = search needs
-
-loop-less : tie.Need-loop-less Inv-loop μ-loop
-loop-less c = search needs
 
 loop-again : tie.Need-loop-again Inv-loop μ-loop
 loop-again c =
@@ -67,16 +49,5 @@ pub list-marked-spec : {M : Type 1} → statement M
 list-marked-spec =
     tie.close
     (tie.spec
-    Inv-loop
-    μ-loop
-    loop-holds
-    mul-list-word
-    cast-list-word
-    mul-list-word-2
-    element-copy-out-list-word
-    list-word-requires
-    add-i
-    loop-less
-    loop-again
-    same-length
-    returns)
+    Inv-loop μ-loop loop-holds (λ c. search needs) (λ c. search needs) (λ c. search needs) (λ c. search needs) list-word-requires
+    (λ c. search needs) (λ c. search needs) loop-again same-length returns)

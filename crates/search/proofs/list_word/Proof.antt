@@ -20,9 +20,6 @@ abbrev μ-loop : tie.MeasureT-loop
 loop-holds : tie.Need-loop-holds Inv-loop μ-loop
 loop-holds c t = listing-begins t
 
-lowest-requires : tie.Need-lowest-requires Inv-loop μ-loop
-lowest-requires c κs = search needs
-
 -- in a turn
 room : (c : tie.After-lowest Inv-loop μ-loop)
     → (c .before .before .loop .n < length (c .before .before .before .before .args .list .now)) × (length (c .before .before .loop .list) ≡ length (c .before .before .before .before .args .list .now))
@@ -30,12 +27,6 @@ room c =
     let t = c .before .before .before .before .pre .1 in
     let r = c .before .before .loop .inv t in
     (listing-room t r (c .lowest .ensures), laid-length (r .written .laid))
-
-cast-list : tie.Need-cast-list Inv-loop μ-loop
-cast-list c = search needs
-
-add-list : tie.Need-add-list Inv-loop μ-loop
-add-list c = search needs
 
 mul-list : tie.Need-mul-list Inv-loop μ-loop
 mul-list c = omega (arith, room c .0)
@@ -45,12 +36,6 @@ slice-write-list c = omega (arith, room c)
 
 add-n : tie.Need-add-n Inv-loop μ-loop
 add-n c = omega (arith, room c .0)
-
-without-requires : tie.Need-without-requires Inv-loop μ-loop
-without-requires c κs = search needs
-
-loop-less : tie.Need-loop-less Inv-loop μ-loop
-loop-less c = search needs
 
 loop-again : tie.Need-loop-again Inv-loop μ-loop
 loop-again c t = listing-next t (c .before .before .before .loop .inv t) (c .before .lowest .ensures) (c .without .ensures)
@@ -65,17 +50,5 @@ pub list-word-spec : {M : Type 1} → statement M
 list-word-spec =
     tie.close
     (tie.spec
-    Inv-loop
-    μ-loop
-    loop-holds
-    lowest-requires
-    cast-list
-    add-list
-    mul-list
-    slice-write-list
-    add-n
-    without-requires
-    loop-less
-    loop-again
-    same-length
-    returns)
+    Inv-loop μ-loop loop-holds (λ c κs. search needs) (λ c. search needs) (λ c. search needs) mul-list slice-write-list add-n
+    (λ c κs. search needs) (λ c. search needs) loop-again same-length returns)

@@ -23,20 +23,11 @@ loop-holds c = (omega arith, c .pre .0, c .pre .2, none-marked (c .args .queue .
 small : (c : tie.In-loop Inv-loop μ-loop) → getD (c .before .before .args .queue .now) (c .before .loop .p) 0 < 576
 small c = c .before .before .pre .3 (c .before .loop .p) (c .before .loop .inv .0) (c .loop-test .taken)
 
-mul-e : tie.Need-mul-e Inv-loop μ-loop
-mul-e c = search needs
-
-element-copy-out-e : tie.Need-element-copy-out-e Inv-loop μ-loop
-element-copy-out-e c = search needs
-
 cast-i : tie.Need-cast-i Inv-loop μ-loop
 cast-i c = omega (arith, small (c .before))
 
 cast-one : tie.Need-cast-one Inv-loop μ-loop
 cast-one c = omega (arith, small (c .before))
-
-one-requires : tie.Need-one-requires Inv-loop μ-loop
-one-requires c κs = search needs
 
 mul-marks : tie.Need-mul-marks Inv-loop μ-loop
 mul-marks c = omega (arith, small (c .before .before))
@@ -49,12 +40,6 @@ mul-marks-2 c = omega (arith, small (c .before .before .before))
 
 element-write-marks : tie.Need-element-write-marks Inv-loop μ-loop
 element-write-marks c = omega (arith, small (c .before .before .before))
-
-add-p : tie.Need-add-p Inv-loop μ-loop
-add-p c = search needs
-
-loop-less : tie.Need-loop-less Inv-loop μ-loop
-loop-less c = search needs
 
 loop-again : tie.Need-loop-again Inv-loop μ-loop
 loop-again c =
@@ -78,19 +63,5 @@ pub mark-spec : {M : Type 1} → statement M
 mark-spec =
     tie.close
     (tie.spec
-    Inv-loop
-    μ-loop
-    loop-holds
-    mul-e
-    element-copy-out-e
-    cast-i
-    cast-one
-    one-requires
-    mul-marks
-    element-copy-out-marks
-    mul-marks-2
-    element-write-marks
-    add-p
-    loop-less
-    loop-again
-    returns)
+    Inv-loop μ-loop loop-holds (λ c. search needs) (λ c. search needs) cast-i cast-one (λ c κs. search needs) mul-marks
+    element-copy-out-marks mul-marks-2 element-write-marks (λ c. search needs) (λ c. search needs) loop-again returns)

@@ -13,25 +13,10 @@ use Rattle.search.proofs.Beginning.{first-asks, first-ends, first-goes}
 use Rattle.search.proofs.search.Statement.{statement}
 use Rattle.search.proofs.search.Tie as tie
 
-element-write-queue : tie.Need-element-write-queue
-element-write-queue c = search needs
-
-element-write-from : tie.Need-element-write-from
-element-write-from c = search needs
-
-last-of-requires : tie.Need-last-of-requires
-last-of-requires c κs = search needs
-
 try-forests-requires : tie.Need-try-forests-requires
 try-forests-requires c κs =
     let start = c .before .before .before .before in
     first-asks (start .pre .2) (start .args .queue .now) (start .args .from .now) (start .pre .0) (start .pre .1) (c .before .before .before .last-of .ensures)
-
-enum-known-t : tie.Need-enum-known-t
-enum-known-t c = search needs
-
-enum-known-t-2 : tie.Need-enum-known-t-2
-enum-known-t-2 c = search needs
 
 -- after the first turn
 abbrev start : tie.After-try-forests → tie.Start
@@ -71,12 +56,5 @@ pub search-spec : {M : Type 1} → statement M
 search-spec =
     tie.close
     (tie.spec
-    element-write-queue
-    element-write-from
-    last-of-requires
-    try-forests-requires
-    enum-known-t
-    enum-known-t-2
-    turns-requires
-    returns
-    returns-2)
+    (λ c. search needs) (λ c. search needs) (λ c κs. search needs) try-forests-requires (λ c. search needs) (λ c. search needs)
+    turns-requires returns returns-2)

@@ -67,17 +67,5 @@ pub trail-spec : {M : Type 1} → statement M
 trail-spec =
     tie.close
     (tie.spec
-    Inv-loop
-    μ-loop
-    loop-holds
-    mul-path
-    element-copy-out-path
-    mul-path-2
-    element-write-path
-    mul-q
-    element-copy-out-q
-    cast-q
-    add-n
-    loop-less
-    loop-again
-    returns)
+    Inv-loop μ-loop loop-holds mul-path element-copy-out-path mul-path-2 element-write-path mul-q element-copy-out-q cast-q add-n loop-less
+    loop-again returns)

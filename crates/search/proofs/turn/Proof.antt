@@ -41,26 +41,14 @@ sub-i c = within (c .before) .1
 element-copy-out-wide : tie.Need-element-copy-out-wide
 element-copy-out-wide c = within (c .before) .2
 
-wide-requires : tie.Need-wide-requires
-wide-requires c κs = search needs
-
 element-copy-out-last-of : tie.Need-element-copy-out-last-of
 element-copy-out-last-of c = within (c .before .before .before) .2
-
-last-of-requires : tie.Need-last-of-requires
-last-of-requires c κs = search needs
 
 element-copy-out-wide-2 : tie.Need-element-copy-out-wide-2
 element-copy-out-wide-2 c = within (c .before .before .before .before .before) .2
 
-wide-requires-2 : tie.Need-wide-requires-2
-wide-requires-2 c κs = search needs
-
 element-copy-out-wide-3 : tie.Need-element-copy-out-wide-3
 element-copy-out-wide-3 c = within (c .before .before .before .before .before .before .before) .2
-
-wide-requires-3 : tie.Need-wide-requires-3
-wide-requires-3 c κs = search needs
 
 -- the reads are over
 abbrev start : tie.After-wide3 → tie.Start
@@ -95,12 +83,6 @@ try-forests-requires c κs =
     let t : Task (start r) = (start r .pre .0, start r .pre .1 .1 .1) in
     (tries r t, (reads r t .last, reads r t .edge .stands))
 
-enum-known-t : tie.Need-enum-known-t
-enum-known-t c = search needs
-
-enum-known-t-2 : tie.Need-enum-known-t-2
-enum-known-t-2 c = search needs
-
 returns : tie.Need-returns
 returns c g s =
     let told = c .before .before .before in
@@ -119,20 +101,6 @@ pub turn-spec : {M : Type 1} → statement M
 turn-spec =
     tie.close
     (tie.spec
-    mul-i
-    element-copy-out-i
-    cast-i
-    sub-i
-    element-copy-out-wide
-    wide-requires
-    element-copy-out-last-of
-    last-of-requires
-    element-copy-out-wide-2
-    wide-requires-2
-    element-copy-out-wide-3
-    wide-requires-3
-    try-forests-requires
-    enum-known-t
-    enum-known-t-2
-    returns
-    returns-2)
+    mul-i element-copy-out-i cast-i sub-i element-copy-out-wide (λ c κs. search needs) element-copy-out-last-of (λ c κs. search needs)
+    element-copy-out-wide-2 (λ c κs. search needs) element-copy-out-wide-3 (λ c κs. search needs) try-forests-requires (λ c. search needs)
+    (λ c. search needs) returns returns-2)

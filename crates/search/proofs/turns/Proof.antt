@@ -36,18 +36,12 @@ turn-requires c κs =
     let g = at .before .pre .0 in
     (g, (at .loop .inv .0, (c .before .before .before .loop-test .taken, at .loop .inv .1 g (at .before .pre .1) .1)))
 
-enum-known-r : tie.Need-enum-known-r Inv-loop μ-loop
-enum-known-r c = search needs
-
 returns : tie.Need-returns Inv-loop μ-loop
 returns c g s =
     let at = c .before .before .before .before .before .before .before .before in
     let r = at .loop .inv .1 g s in
     ended g (at .loop .q + 1) (omega (arith, all-edges g (at .loop .q) (r .1)))
     (subst (Answers _ _) (c .before .r .given .1) (c .before .before .before .turn .ensures g (r .1)))
-
-enum-known-r-2 : tie.Need-enum-known-r-2 Inv-loop μ-loop
-enum-known-r-2 c = search needs
 
 add-q : tie.Need-add-q Inv-loop μ-loop
 add-q c = omega (arith, room (c .before .before .before .before .before .before .before))
@@ -73,14 +67,4 @@ pub turns-spec : {M : Type 1} → statement M
 turns-spec =
     tie.close
     (tie.spec
-    Inv-loop
-    μ-loop
-    loop-holds
-    turn-requires
-    enum-known-r
-    returns
-    enum-known-r-2
-    add-q
-    loop-less
-    loop-again
-    returns-2)
+    Inv-loop μ-loop loop-holds turn-requires (λ c. search needs) returns (λ c. search needs) add-q loop-less loop-again returns-2)

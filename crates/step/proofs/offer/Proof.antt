@@ -10,9 +10,6 @@ use Rattle.step.proofs.Asked.{offer-refused, small-body, small-colour}
 use Rattle.step.proofs.offer.Statement.{statement}
 use Rattle.step.proofs.offer.Tie as tie
 
-offer-checks-requires : tie.Need-offer-checks-requires
-offer-checks-requires c κs = search needs
-
 full : (c : tie.Start) → Full (c .args .book)
 full c =
     let ones : length (c .args .book .ones) ≡ 512 = search needs in
@@ -24,15 +21,6 @@ full c =
 -- after the checks
 abbrev start-of : tie.After-offer-checks → tie.Start
 start-of c = c .before .before .before .before .before .before .before
-
-enum-told : tie.Need-enum-told
-enum-told c = search needs
-
-enum-told-2 : tie.Need-enum-told-2
-enum-told-2 c = search needs
-
-refusal-requires : tie.Need-refusal-requires
-refusal-requires c κs = tt
 
 returns : tie.Need-returns
 returns c =
@@ -87,9 +75,6 @@ taken-requires c κs =
           };
     }
 
-same-length : tie.Need-same-length
-same-length c = search needs
-
 returns-2 : tie.Need-returns-2
 returns-2 c = c .before .before .taken .ensures
 
@@ -97,14 +82,5 @@ pub offer-spec : {M : Type 1} → statement M
 offer-spec =
     tie.close
     (tie.spec
-    offer-checks-requires
-    enum-told
-    enum-told-2
-    refusal-requires
-    returns
-    cast-taken
-    cast-taken-2
-    cast-taken-3
-    taken-requires
-    same-length
-    returns-2)
+    (λ c κs. search needs) (λ c. search needs) (λ c. search needs) (λ c κs. tt) returns cast-taken cast-taken-2 cast-taken-3 taken-requires
+    (λ c. search needs) returns-2)

@@ -8,21 +8,9 @@ use Rattle.step.proofs.Asked.{question-refused, small-body, small-colou
 use Rattle.step.proofs.question.Statement.{statement}
 use Rattle.step.proofs.question.Tie as tie
 
-question-checks-requires : tie.Need-question-checks-requires
-question-checks-requires c κs = search needs
-
 -- after the checks
 abbrev start-of : tie.After-question-checks → tie.Start
 start-of c = c .before .before .before .before .before .before .before
-
-enum-told : tie.Need-enum-told
-enum-told c = search needs
-
-enum-told-2 : tie.Need-enum-told-2
-enum-told-2 c = search needs
-
-refusal-requires : tie.Need-refusal-requires
-refusal-requires c κs = tt
 
 returns : tie.Need-returns
 returns c =
@@ -70,9 +58,6 @@ sought-requires c κs =
     let tables = passed-at told .question-checks .last .1 .1 .1 .1 .1 in
     record { checked = fine told .0; who = tables .1 .1 .0; size = tables .1 .1 .1 .1 .0; tabled = fine told .1 .tabled }
 
-same-length : tie.Need-same-length
-same-length c = search needs
-
 returns-2 : tie.Need-returns-2
 returns-2 c = c .before .before .sought .ensures
 
@@ -80,14 +65,5 @@ pub question-spec : {M : Type 1} → statement M
 question-spec =
     tie.close
     (tie.spec
-    question-checks-requires
-    enum-told
-    enum-told-2
-    refusal-requires
-    returns
-    cast-sought
-    cast-sought-2
-    cast-sought-3
-    sought-requires
-    same-length
-    returns-2)
+    (λ c κs. search needs) (λ c. search needs) (λ c. search needs) (λ c κs. tt) returns cast-sought cast-sought-2 cast-sought-3
+    sought-requires (λ c. search needs) returns-2)

@@ -27,9 +27,6 @@ Sought c place =
     let start = start-of c in
     Seeks (start .args .book) (start .args .u) (start .args .v) (start .args .colour) (start .args .list .now) (c .place-for .ensures .0) (listed-of c) place
 
-enum-known-place : tie.Need-enum-known-place
-enum-known-place c = search needs
-
 -- a place was found
 abbrev found-at : tie.After-known-told → tie.After-place-for
 found-at c = c .before .before .before .before .before
@@ -42,22 +39,12 @@ cast-t16 c =
     let few = found c .0 .few in
     search (needs, few)
 
-same-length : tie.Need-same-length
-same-length c = search needs
-
 returns : tie.Need-returns
 returns c =
     let at = found-at c in
     let start = start-of at in
     answers-kept (start .args .book) (start .args .u) (start .args .v) (start .args .colour) (start .pre) (at .place-for .ensures .0) (listed-of at) _ _
     (found c .0) (found c .1)
-
--- none was
-enum-known-place-2 : tie.Need-enum-known-place-2
-enum-known-place-2 c = search needs
-
-same-length-2 : tie.Need-same-length-2
-same-length-2 c = search needs
 
 returns-2 : tie.Need-returns-2
 returns-2 c =
@@ -70,11 +57,4 @@ pub sought-spec : {M : Type 1} → statement M
 sought-spec =
     tie.close
     (tie.spec
-    place-for-requires
-    enum-known-place
-    cast-t16
-    enum-known-place-2
-    same-length
-    returns
-    same-length-2
-    returns-2)
+    place-for-requires (λ c. search needs) cast-t16 (λ c. search needs) (λ c. search needs) returns (λ c. search needs) returns-2)

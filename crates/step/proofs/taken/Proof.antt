@@ -15,9 +15,6 @@ add-t35 c =
     let few = start .pre .checked .1 .1 .1 .1 .1 .0 in
     search (needs, few)
 
-same-length : tie.Need-same-length
-same-length c = search needs
-
 returns : tie.Need-returns
 returns c =
     let take = c .before .before .before in
@@ -26,4 +23,4 @@ returns c =
     (start .args .colour) _ _ (take .take .result) _ (omega arith) (take .take .ensures .3 (start .pre) .offer)
 
 pub taken-spec : {M : Type 1} → statement M
-taken-spec = tie.close (tie.spec take-requires add-t35 same-length returns)
+taken-spec = tie.close (tie.spec take-requires add-t35 (λ c. search needs) returns)

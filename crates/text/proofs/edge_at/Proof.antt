@@ -8,17 +8,8 @@ use Rattle.text.proofs.Keys.{begins-at-within}
 use Rattle.text.proofs.edge_at.Statement.{statement}
 use Rattle.text.proofs.edge_at.Tie as tie
 
-slice-aggregate-begins-at : tie.Need-slice-aggregate-begins-at
-slice-aggregate-begins-at c = search needs
-
-begins-at-requires : tie.Need-begins-at-requires
-begins-at-requires c κs = search needs
-
 add-ends : tie.Need-add-ends
 add-ends c = omega (arith, begins-at-within _ _ _ (sym (c .before .begins-at .ensures) ∙ c .if1 .taken))
-
-ends-requires : tie.Need-ends-requires
-ends-requires c κs = search needs
 
 returns : tie.Need-returns
 unfolding readEdge
@@ -26,17 +17,8 @@ returns c =
     let d = c .before in
     c .ends .ensures ∙ sym (pick-true _ _ _ (d .before .begins-at .ensures) (d .if1 .taken))
 
-slice-aggregate-begins-at-2 : tie.Need-slice-aggregate-begins-at-2
-slice-aggregate-begins-at-2 c = search needs
-
-begins-at-requires-2 : tie.Need-begins-at-requires-2
-begins-at-requires-2 c κs = search needs
-
 add-ends-2 : tie.Need-add-ends-2
 add-ends-2 c = omega (arith, begins-at-within _ _ _ (sym (c .before .begins-at2 .ensures) ∙ c .if2 .taken))
-
-ends-requires-2 : tie.Need-ends-requires-2
-ends-requires-2 c κs = search needs
 
 returns-2 : tie.Need-returns-2
 unfolding readEdge
@@ -56,6 +38,6 @@ returns-3 c =
 
 pub edge-at-spec : {M : Type 1} → statement M
 edge-at-spec =
-    let one = tie.spec slice-aggregate-begins-at begins-at-requires add-ends ends-requires in
-    let two = one returns slice-aggregate-begins-at-2 begins-at-requires-2 add-ends-2 in
-    tie.close (two ends-requires-2 returns-2 returns-3)
+    let one = tie.spec (λ c. search needs) (λ c κs. search needs) add-ends (λ c κs. search needs) in
+    let two = one returns (λ c. search needs) (λ c κs. search needs) add-ends-2 in
+    tie.close (two (λ c κs. search needs) returns-2 returns-3)

@@ -12,15 +12,6 @@ use Rattle.text.proofs.Picks.{pick-true, pick-false, pick-eq, pick-ne}
 use Rattle.text.proofs.edge_in.Statement.{statement}
 use Rattle.text.proofs.edge_in.Tie as tie
 
-edge-at-requires : tie.Need-edge-at-requires
-edge-at-requires c κs = search needs
-
-enum-known-e : tie.Need-enum-known-e
-enum-known-e c = search needs
-
-enum-told : tie.Need-enum-told
-enum-told c = search needs
-
 returns : tie.Need-returns
 unfolding readStep joined
 returns c = sym (ap (joined _) (sym (c .before .before .edge-at .ensures) ∙ c .enum-told .given .1))
@@ -33,9 +24,6 @@ read : (c : tie.After-known-told)
 unfolding readStep
 read c = ap (joined _) (sym (c .before .before .before .edge-at .ensures) ∙ c .before .e .given .1)
 
-within-requires : tie.Need-within-requires
-within-requires c κs = search needs
-
 returns-2 : tie.Need-returns-2
 unfolding joined
 returns-2 c =
@@ -47,12 +35,6 @@ unfolding joined
 returns-3 c =
     let same = c .before .before in
     sym (read (same .before) ∙ pick-eq _ _ _ _ (same .if1 .taken) ∙ pick-false _ _ _ (c .before .within .ensures) (c .if2 .left))
-
-within-requires-2 : tie.Need-within-requires-2
-within-requires-2 c κs = search needs
-
-within-requires-3 : tie.Need-within-requires-3
-within-requires-3 c κs = search needs
 
 -- the bodies differ, and the first is one of 1 to n
 first-in : (c : tie.Then3)
@@ -79,5 +61,5 @@ returns-6 c =
 
 pub edge-in-spec : {M : Type 1} → statement M
 edge-in-spec =
-    let one = tie.spec edge-at-requires enum-known-e enum-told returns within-requires returns-2 returns-3 in
-    tie.close (one within-requires-2 within-requires-3 returns-4 returns-5 returns-6)
+    let one = tie.spec (λ c κs. search needs) (λ c. search needs) (λ c. search needs) returns (λ c κs. search needs) returns-2 returns-3 in
+    tie.close (one (λ c κs. search needs) (λ c κs. search needs) returns-4 returns-5 returns-6)

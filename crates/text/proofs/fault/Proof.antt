@@ -13,24 +13,6 @@ use Rattle.text.proofs.LineEnds.{first-line-within}
 use Rattle.text.proofs.fault.Statement.{statement}
 use Rattle.text.proofs.fault.Tie as tie
 
-find-requires : tie.Need-find-requires
-find-requires c κs = search needs
-
-enum-told : tie.Need-enum-told
-enum-told c = search needs
-
-sub-result : tie.Need-sub-result
-sub-result c = search needs
-
-part-result-start : tie.Need-part-result-start
-part-result-start c = search needs
-
-part-result-end : tie.Need-part-result-end
-part-result-end c = search needs
-
-enum-known-found : tie.Need-enum-known-found
-enum-known-found c = search needs
-
 -- the first fault, which `find` has found
 abbrev text : tie.After-known-told → List ℕ
 text c = now (c .before .before .before .before .before .args .text)
@@ -49,12 +31,6 @@ end-within c =
 
 line-end-requires : tie.Need-line-end-requires
 line-end-requires c κs = found-fault c .within
-
-sub-result-2 : tie.Need-sub-result-2
-sub-result-2 c = search needs
-
-part-result-start-2 : tie.Need-part-result-start-2
-part-result-start-2 c = search needs
 
 part-result-end-2 : tie.Need-part-result-end-2
 part-result-end-2 c = end-within c
@@ -85,6 +61,6 @@ returns-2 c =
 
 pub fault-spec : {M : Type 1} → statement M
 fault-spec =
-    let one = tie.spec find-requires enum-told sub-result part-result-start part-result-end in
-    let two = one enum-known-found line-end-requires sub-result-2 part-result-start-2 in
+    let one = tie.spec (λ c κs. search needs) (λ c. search needs) (λ c. search needs) (λ c. search needs) (λ c. search needs) in
+    let two = one (λ c. search needs) line-end-requires (λ c. search needs) (λ c. search needs) in
     tie.close (two part-result-end-2 returns returns-2)

@@ -13,24 +13,6 @@ use Rattle.text.proofs.field.Tie as tie
 returns : tie.Need-returns
 returns c = sym (field-past _ _ _ (c .if1 .taken))
 
-sub-number : tie.Need-sub-number
-sub-number c = search needs
-
-part-number-start : tie.Need-part-number-start
-part-number-start c = search needs
-
-part-number-end : tie.Need-part-number-end
-part-number-end c = search needs
-
-number-requires : tie.Need-number-requires
-number-requires c κs = search needs
-
-enum-known-r : tie.Need-enum-known-r
-enum-known-r c = search needs
-
-enum-told : tie.Need-enum-told
-enum-told c = search needs
-
 -- what `number` has read
 read : (c : tie.After-number)
     → let a = c .before .before .before .before .args in c .number .result ≡ readNumber 3 (drop (a .at) (now (a .text)))
@@ -43,9 +25,6 @@ add-end : tie.Need-add-end
 add-end c =
     let d = c .before .before .before in
     omega (arith, used-within _ _ _ _ _ (read d) (c .before .r .given .1) (d .before .before .if1 .left))
-
-byte-requires : tie.Need-byte-requires
-byte-requires c κs = search needs
 
 add-t15 : tie.Need-add-t15
 add-t15 c =
@@ -64,6 +43,6 @@ returns-4 c =
 
 pub field-spec : {M : Type 1} → statement M
 field-spec =
-    let one = tie.spec returns sub-number part-number-start part-number-end number-requires in
-    let two = one enum-known-r enum-told returns-2 add-end byte-requires add-t15 returns-3 in
+    let one = tie.spec returns (λ c. search needs) (λ c. search needs) (λ c. search needs) (λ c κs. search needs) in
+    let two = one (λ c. search needs) (λ c. search needs) returns-2 add-end (λ c κs. search needs) add-t15 returns-3 in
     tie.close (two returns-4)

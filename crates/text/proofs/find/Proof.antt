@@ -6,19 +6,10 @@ use Rattle.text.specs.Judgements.{HeadFound}
 use Rattle.text.proofs.find.Statement.{statement}
 use Rattle.text.proofs.find.Tie as tie
 
-head-of-requires : tie.Need-head-of-requires
-head-of-requires c κs = search needs
-
-enum-known-found : tie.Need-enum-known-found
-enum-known-found c = search needs
-
 walk-requires : tie.Need-walk-requires
 walk-requires c κs =
     let d = c .before .before .before in
     subst (HeadFound (now (d .before .before .args .text))) (c .before .found .given .1) (d .head-of .ensures)
-
-enum-known-found-2 : tie.Need-enum-known-found-2
-enum-known-found-2 c = search needs
 
 returns : tie.Need-returns
 returns c = c .walk .ensures
@@ -29,6 +20,4 @@ returns-2 c =
     subst (HeadFound (now (d .before .before .args .text))) (c .before .found2 .given .1) (d .head-of .ensures)
 
 pub find-spec : {M : Type 1} → statement M
-find-spec =
-    tie.close
-    (tie.spec head-of-requires enum-known-found walk-requires enum-known-found-2 returns returns-2)
+find-spec = tie.close (tie.spec (λ c κs. search needs) (λ c. search needs) walk-requires (λ c. search needs) returns returns-2)

@@ -77,41 +77,11 @@ by-why : {r : Numbered} {w reason : Reason} {s : List ℕ} {line at : ℕ} → w
     → FaultAt s reason line at → FaultAt s w line at
 by-why {s = s} {line} {at} e q f = subst (λ (x : Reason). FaultAt s x line at) (sym (e ∙ ap reasonOf q)) f
 
-slice-aggregate-number-in : tie.Need-slice-aggregate-number-in
-slice-aggregate-number-in c = search needs
-
-number-in-requires : tie.Need-number-in-requires
-number-in-requires c κs = search needs
-
-enum-known-one : tie.Need-enum-known-one
-enum-known-one c = search needs
-
-enum-told : tie.Need-enum-told
-enum-told c = search needs
-
-why-requires : tie.Need-why-requires
-why-requires c κs = search needs
-
 returns : tie.Need-returns
 returns c =
     let told = c .before in
     let e = told .enum-told .given .1 in
     by-why (c .why .ensures) e (fault-a _ (stands-first _) (sym (told .before .before .number-in .ensures) ∙ e))
-
-slice-aggregate-number-in-2 : tie.Need-slice-aggregate-number-in-2
-slice-aggregate-number-in-2 c = search needs
-
-number-in-requires-2 : tie.Need-number-in-requires-2
-number-in-requires-2 c κs = search needs
-
-enum-known-two : tie.Need-enum-known-two
-enum-known-two c = search needs
-
-enum-told-2 : tie.Need-enum-told-2
-enum-told-2 c = search needs
-
-why-requires-2 : tie.Need-why-requires-2
-why-requires-2 c κs = search needs
 
 returns-2 : tie.Need-returns-2
 returns-2 c =
@@ -120,42 +90,12 @@ returns-2 c =
     by-why (c .why2 .ensures) e
     (fault-b _ _ (after-a (told .before .before .before .before) .1) (sym (told .before .before .number-in2 .ensures) ∙ e))
 
-slice-aggregate-number-in-3 : tie.Need-slice-aggregate-number-in-3
-slice-aggregate-number-in-3 c = search needs
-
-number-in-requires-3 : tie.Need-number-in-requires-3
-number-in-requires-3 c κs = search needs
-
-enum-known-three : tie.Need-enum-known-three
-enum-known-three c = search needs
-
-enum-told-3 : tie.Need-enum-told-3
-enum-told-3 c = search needs
-
-why-requires-3 : tie.Need-why-requires-3
-why-requires-3 c κs = search needs
-
 returns-3 : tie.Need-returns-3
 returns-3 c =
     let told = c .before in
     let e = told .enum-told3 .given .1 in
     by-why (c .why3 .ensures) e
     (fault-bodies _ _ _ (after-b (told .before .before .before .before) .1) (sym (told .before .before .number-in3 .ensures) ∙ e))
-
-slice-aggregate-number-in-4 : tie.Need-slice-aggregate-number-in-4
-slice-aggregate-number-in-4 c = search needs
-
-number-in-requires-4 : tie.Need-number-in-requires-4
-number-in-requires-4 c κs = search needs
-
-enum-known-four : tie.Need-enum-known-four
-enum-known-four c = search needs
-
-enum-told-4 : tie.Need-enum-told-4
-enum-told-4 c = search needs
-
-why-requires-4 : tie.Need-why-requires-4
-why-requires-4 c κs = search needs
 
 returns-4 : tie.Need-returns-4
 returns-4 c =
@@ -183,9 +123,9 @@ returns-5 c = let s = after-edges c .1 in record { within = s .within; leads = s
 
 pub head-of-spec : {M : Type 1} → statement M
 head-of-spec =
-    let one = tie.spec slice-aggregate-number-in number-in-requires enum-known-one enum-told why-requires in
-    let two = one returns slice-aggregate-number-in-2 number-in-requires-2 enum-known-two enum-told-2 in
-    let three = two why-requires-2 returns-2 slice-aggregate-number-in-3 number-in-requires-3 in
-    let four = three enum-known-three enum-told-3 why-requires-3 returns-3 slice-aggregate-number-in-4 in
-    let five = four number-in-requires-4 enum-known-four enum-told-4 why-requires-4 returns-4 cast-t31 in
+    let one = tie.spec (λ c. search needs) (λ c κs. search needs) (λ c. search needs) (λ c. search needs) (λ c κs. search needs) in
+    let two = one returns (λ c. search needs) (λ c κs. search needs) (λ c. search needs) (λ c. search needs) in
+    let three = two (λ c κs. search needs) returns-2 (λ c. search needs) (λ c κs. search needs) in
+    let four = three (λ c. search needs) (λ c. search needs) (λ c κs. search needs) returns-3 (λ c. search needs) in
+    let five = four (λ c κs. search needs) (λ c. search needs) (λ c. search needs) (λ c κs. search needs) returns-4 cast-t31 in
     tie.close (five cast-t32 cast-t33 cast-t34 returns-5)

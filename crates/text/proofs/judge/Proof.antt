@@ -6,15 +6,6 @@ use Rattle.text.specs.Judgements.{TextFound}
 use Rattle.text.proofs.judge.Statement.{statement}
 use Rattle.text.proofs.judge.Tie as tie
 
-find-requires : tie.Need-find-requires
-find-requires c κs = search needs
-
-enum-known-found : tie.Need-enum-known-found
-enum-known-found c = search needs
-
-enum-known-found-2 : tie.Need-enum-known-found-2
-enum-known-found-2 c = search needs
-
 returns : tie.Need-returns
 returns c =
     let d = c .before .before .before in
@@ -26,5 +17,4 @@ returns-2 c =
     (_, subst (TextFound (now (d .before .before .args .text))) (c .before .found2 .given .1) (d .find .ensures), refl, refl)
 
 pub judge-spec : {M : Type 1} → statement M
-judge-spec =
-    tie.close (tie.spec find-requires enum-known-found enum-known-found-2 returns returns-2)
+judge-spec = tie.close (tie.spec (λ c κs. search needs) (λ c. search needs) (λ c. search needs) returns returns-2)

@@ -12,45 +12,18 @@ Inv-loop text head n edges at₀ i₀ at i = Walked text head at i
 abbrev μ-loop : tie.MeasureT-loop
 μ-loop text head n edges at₀ i₀ at i = edges - i
 
-cast-n : tie.Need-cast-n Inv-loop μ-loop
-cast-n c = search needs
-
-cast-edges : tie.Need-cast-edges Inv-loop μ-loop
-cast-edges c = search needs
-
 loop-holds : tie.Need-loop-holds Inv-loop μ-loop
 loop-holds c = walked-none (c .before .before .before .pre)
-
-edge-in-requires : tie.Need-edge-in-requires Inv-loop μ-loop
-edge-in-requires c κs = search needs
-
-enum-known-line : tie.Need-enum-known-line Inv-loop μ-loop
-enum-known-line c = search needs
-
-enum-known-line-2 : tie.Need-enum-known-line-2 Inv-loop μ-loop
-enum-known-line-2 c = search needs
-
-add-t11 : tie.Need-add-t11 Inv-loop μ-loop
-add-t11 c = search needs
 
 returns : tie.Need-returns Inv-loop μ-loop
 returns c =
     let t = c .before .before .before .before in
     walked-fault (t .before .loop .inv) (t .loop-test .taken) (sym (c .before .before .before .edge-in .ensures) ∙ c .before .line2 .given .1)
 
-add-i : tie.Need-add-i Inv-loop μ-loop
-add-i c = search needs
-
-loop-less : tie.Need-loop-less Inv-loop μ-loop
-loop-less c = search needs
-
 loop-again : tie.Need-loop-again Inv-loop μ-loop
 loop-again c =
     let t = c .before .before .before .before in
     walked-on (t .before .loop .inv) (t .loop-test .taken) (sym (c .before .before .before .edge-in .ensures) ∙ c .before .line .given .1)
-
-add-t15 : tie.Need-add-t15 Inv-loop μ-loop
-add-t15 c = search needs
 
 returns-2 : tie.Need-returns-2 Inv-loop μ-loop
 returns-2 c = walked-extra (c .before .before .loop .inv) (c .before .loop-test .left) (c .if1 .taken)
@@ -62,6 +35,6 @@ returns-3 c =
 
 pub walk-spec : {M : Type 1} → statement M
 walk-spec =
-    let one = tie.spec Inv-loop μ-loop cast-n cast-edges loop-holds edge-in-requires in
-    let two = one enum-known-line enum-known-line-2 add-t11 returns add-i loop-less loop-again in
-    tie.close (two add-t15 returns-2 returns-3)
+    let one = tie.spec Inv-loop μ-loop (λ c. search needs) (λ c. search needs) loop-holds (λ c κs. search needs) in
+    let two = one (λ c. search needs) (λ c. search needs) (λ c. search needs) returns (λ c. search needs) (λ c. search needs) loop-again in
+    tie.close (two (λ c. search needs) returns-2 returns-3)

@@ -6,12 +6,9 @@ use Rattle.words.proofs.Shift.{bit-shifted}
 use Rattle.words.proofs.has.Statement.{statement}
 use Rattle.words.proofs.has.Tie as tie
 
-shr-result : tie.Need-shr-result
-shr-result c = search needs
-
 returns : tie.Need-returns
 unfolding _=?_
 returns c = sym (bit-shifted (c .args .word) (c .args .t))
 
 pub has-spec : {M : Type 1} → statement M
-has-spec = tie.close (tie.spec shr-result returns)
+has-spec = tie.close (tie.spec (λ c. search needs) returns)

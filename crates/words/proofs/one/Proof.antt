@@ -5,11 +5,8 @@ use Rattle.words.proofs.Shift.{shifted-one}
 use Rattle.words.proofs.one.Statement.{statement}
 use Rattle.words.proofs.one.Tie as tie
 
-shl-result : tie.Need-shl-result
-shl-result c = search needs
-
 returns : tie.Need-returns
 returns c = shifted-one (c .args .t) (c .pre)
 
 pub one-spec : {M : Type 1} → statement M
-one-spec = tie.close (tie.spec shl-result returns)
+one-spec = tie.close (tie.spec (λ c. search needs) returns)

@@ -12,9 +12,6 @@ use Rattle.words.proofs.Shift.{shifted-one}
 use Rattle.words.proofs.without.Statement.{statement}
 use Rattle.words.proofs.without.Tie as tie
 
-shl-result : tie.Need-shl-result
-shl-result c = search needs
-
 returns : tie.Need-returns
 returns c =
     let x = c .args .word in
@@ -26,4 +23,4 @@ returns c =
     })
 
 pub without-spec : {M : Type 1} → statement M
-without-spec = tie.close (tie.spec shl-result returns)
+without-spec = tie.close (tie.spec (λ c. search needs) returns)

@@ -15,26 +15,8 @@ Inv-loop buffer₀ at book count next₀ e₀ buffer next e = Rounds (λ i. edge
 abbrev μ-loop : tie.MeasureT-loop
 μ-loop buffer₀ at book count next₀ e₀ buffer next e = count - e
 
-cast-count : tie.Need-cast-count Inv-loop μ-loop
-cast-count c = search needs
-
 loop-holds : tie.Need-loop-holds Inv-loop μ-loop
 loop-holds c = let a = c .before in rounds-none (edges-pieces (a .args .t1) (a .args .t1 .count)) (omega (arith, a .pre .1))
-
-element-copy-out-wide : tie.Need-element-copy-out-wide Inv-loop μ-loop
-element-copy-out-wide c = search needs
-
-wide-requires : tie.Need-wide-requires Inv-loop μ-loop
-wide-requires c κs = search needs
-
-element-copy-out-wide-2 : tie.Need-element-copy-out-wide-2 Inv-loop μ-loop
-element-copy-out-wide-2 c = search needs
-
-wide-requires-2 : tie.Need-wide-requires-2 Inv-loop μ-loop
-wide-requires-2 c κs = search needs
-
-element-copy-out-add-edge-line : tie.Need-element-copy-out-add-edge-line Inv-loop μ-loop
-element-copy-out-add-edge-line c = search needs
 
 add-edge-line-requires : tie.Need-add-edge-line-requires Inv-loop μ-loop
 add-edge-line-requires c κs =
@@ -46,12 +28,6 @@ add-edge-line-requires c κs =
     let e = l .loop .e in
     rounds-room (edges-pieces (a .args .t1) (a .args .t1 .count)) (l .loop .inv) (a .pre .1) (t .loop-test .taken) _
     (edge-held (a .args .t1) e (v .wide .result) (w .wide2 .result) (v .wide .ensures) (w .wide2 .ensures))
-
-add-e : tie.Need-add-e Inv-loop μ-loop
-add-e c = search needs
-
-loop-less : tie.Need-loop-less Inv-loop μ-loop
-loop-less c = search needs
 
 loop-again : tie.Need-loop-again Inv-loop μ-loop
 loop-again c =
@@ -79,6 +55,6 @@ returns c =
 
 pub edges-spec : {M : Type 1} → statement M
 edges-spec =
-    let one = tie.spec Inv-loop μ-loop cast-count loop-holds element-copy-out-wide wide-requires element-copy-out-wide-2 in
-    let two = one wide-requires-2 element-copy-out-add-edge-line add-edge-line-requires add-e loop-less in
+    let one = tie.spec Inv-loop μ-loop (λ c. search needs) loop-holds (λ c. search needs) (λ c κs. search needs) (λ c. search needs) in
+    let two = one (λ c κs. search needs) (λ c. search needs) add-edge-line-requires (λ c. search needs) (λ c. search needs) in
     tie.close (two loop-again same-length returns)

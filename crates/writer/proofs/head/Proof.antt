@@ -46,15 +46,9 @@ module _ (a b n m : ℕ) (s : List ℕ) (h : length (headText a b n m) ≤ lengt
   unfolding two
   room-one = fits-front (one a) (line key-b (b ∷ [])) s room-two
 
-slice-aggregate-number-line : tie.Need-slice-aggregate-number-line
-slice-aggregate-number-line c = search needs
-
 number-line-requires : tie.Need-number-line-requires
 unfolding one
 number-line-requires c κs = let a = c .before .before .before in room-one (a .args .a) (a .args .b) (a .args .n) (a .args .count) (now (a .args .buffer)) (a .pre)
-
-slice-aggregate-add-number-line : tie.Need-slice-aggregate-add-number-line
-slice-aggregate-add-number-line c = search needs
 
 add-number-line-requires : tie.Need-add-number-line-requires
 unfolding one two
@@ -63,9 +57,6 @@ add-number-line-requires c κs =
     let a = d .before .before .before .before in
     writes-left (line key-b (a .args .b ∷ [])) (d .number-line .ensures) (room-two (a .args .a) (a .args .b) (a .args .n) (a .args .count) (now (a .args .buffer)) (a .pre))
 
-slice-aggregate-add-number-line-2 : tie.Need-slice-aggregate-add-number-line-2
-slice-aggregate-add-number-line-2 c = search needs
-
 add-number-line-requires-2 : tie.Need-add-number-line-requires-2
 unfolding one two three
 add-number-line-requires-2 c κs =
@@ -73,9 +64,6 @@ add-number-line-requires-2 c κs =
     let d = e .before .before .before .before .before in
     let a = d .before .before .before .before in
     writes-left (line key-bodies (a .args .n ∷ [])) (writes-adds (d .number-line .ensures) (e .add-number-line .ensures)) (room-three (a .args .a) (a .args .b) (a .args .n) (a .args .count) (now (a .args .buffer)) (a .pre))
-
-slice-aggregate-add-number-line-3 : tie.Need-slice-aggregate-add-number-line-3
-slice-aggregate-add-number-line-3 c = search needs
 
 add-number-line-requires-3 : tie.Need-add-number-line-requires-3
 unfolding one two three four
@@ -86,9 +74,6 @@ add-number-line-requires-3 c κs =
     let a = d .before .before .before .before in
     let so-far = writes-adds (writes-adds (d .number-line .ensures) (e .add-number-line .ensures)) (f .add-number-line2 .ensures) in
     writes-left (line key-edges (a .args .count ∷ [])) so-far (room-four (a .args .a) (a .args .b) (a .args .n) (a .args .count) (now (a .args .buffer)) (a .pre))
-
-same-length : tie.Need-same-length
-same-length c = search needs
 
 returns : tie.Need-returns
 unfolding one two three four
@@ -105,13 +90,5 @@ pub head-spec : {M : Type 1} → statement M
 head-spec =
     tie.close
     (tie.spec
-    slice-aggregate-number-line
-    number-line-requires
-    slice-aggregate-add-number-line
-    add-number-line-requires
-    slice-aggregate-add-number-line-2
-    add-number-line-requires-2
-    slice-aggregate-add-number-line-3
-    add-number-line-requires-3
-    same-length
-    returns)
+    (λ c. search needs) number-line-requires (λ c. search needs) add-number-line-requires (λ c. search needs) add-number-line-requires-2
+    (λ c. search needs) add-number-line-requires-3 (λ c. search needs) returns)

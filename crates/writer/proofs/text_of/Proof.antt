@@ -11,18 +11,6 @@ use Rattle.writer.proofs.Sheets.{text-parts, head-room, text-room}
 use Rattle.writer.proofs.text_of.Statement.{statement}
 use Rattle.writer.proofs.text_of.Tie as tie
 
-cast-a : tie.Need-cast-a
-cast-a c = search needs
-
-cast-b : tie.Need-cast-b
-cast-b c = search needs
-
-cast-n : tie.Need-cast-n
-cast-n c = search needs
-
-cast-count : tie.Need-cast-count
-cast-count c = search needs
-
 head-requires : tie.Need-head-requires
 head-requires c κs =
     let a = c .before .before .before .before .before .before in
@@ -37,9 +25,6 @@ edges-requires c κs =
       writes-left (edgesText (edgesOf book (book .count))) (d .head .ensures) (text-room book (a .pre .0) (now (a .args .buffer)) (a .pre .1)),
     )
 
-same-length : tie.Need-same-length
-same-length c = search needs
-
 returns : tie.Need-returns
 returns c =
     let e = c .before .before in
@@ -48,4 +33,7 @@ returns c =
     writes-as (sym (text-parts (a .args .book))) (writes-adds (d .head .ensures) (e .edges .ensures))
 
 pub text-of-spec : {M : Type 1} → statement M
-text-of-spec = tie.close (tie.spec cast-a cast-b cast-n cast-count head-requires edges-requires same-length returns)
+text-of-spec =
+    tie.close
+    (tie.spec
+    (λ c. search needs) (λ c. search needs) (λ c. search needs) (λ c. search needs) head-requires edges-requires (λ c. search needs) returns)

@@ -10,18 +10,6 @@ use Rattle.writer.proofs.Refusing.{refused-unsound, refused-short}
 use Rattle.writer.proofs.write.Statement.{statement}
 use Rattle.writer.proofs.write.Tie as tie
 
-sound-alone-requires : tie.Need-sound-alone-requires
-sound-alone-requires c κs = tt
-
-enum-told : tie.Need-enum-told
-enum-told c = search needs
-
-enum-told-2 : tie.Need-enum-told-2
-enum-told-2 c = search needs
-
-no-figure-requires : tie.Need-no-figure-requires
-no-figure-requires c κs = tt
-
 returns : tie.Need-returns
 returns c =
     let check = c .before .before .before in
@@ -57,13 +45,10 @@ sound-here c =
 cast-t10 : tie.Need-cast-t10
 cast-t10 c = omega (arith, c .before .before .text-of .ensures .number, sound-text-size _ (sound-here c))
 
-same-length : tie.Need-same-length
-same-length c = search needs
-
 returns-3 : tie.Need-returns-3
 returns-3 c = let d = c .before .before in ((sound-here c, (omega (arith, d .before .before .if1 .left), tt)), d .text-of .ensures)
 
 pub write-spec : {M : Type 1} → statement M
 write-spec =
-    let one = tie.spec sound-alone-requires enum-told enum-told-2 no-figure-requires returns in
-    tie.close (one returns-2 text-of-requires cast-t10 same-length returns-3)
+    let one = tie.spec (λ c κs. tt) (λ c. search needs) (λ c. search needs) (λ c κs. tt) returns in
+    tie.close (one returns-2 text-of-requires cast-t10 (λ c. search needs) returns-3)
