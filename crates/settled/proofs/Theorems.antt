@@ -16,6 +16,7 @@ use Rattle.rule.specs.Sets.{below}
 use Rattle.rule.specs.Books.{designOf, keptOf, Sound, GrownBook}
 use Rattle.rule.specs.Reasons.{Pass}
 use Rattle.rule.proofs.Outcomes.{SameButForests}
+use Rattle.step.specs.Runs.{Run}
 use Rattle.step.proofs.Runs.{Grew}
 use Rattle.pages.specs.declared.Received.{Received}
 use Rattle.pages.specs.declared.State.{State}
@@ -35,7 +36,11 @@ use Rattle.settled.proofs.Trips
 
 -- ---- 1. Reading
 
--- a book that was read is sound, grown from empty and whole
+-- a book that was read came from opening and a run of offers, so that the laws of undo (crate step) hold of it
+pub reads-run : {text : List ℕ} {B : Book} → Reads text B → Run B
+reads-run = Reading.reads-run
+
+-- it is sound, grown from empty and whole
 pub reads-grew : {text : List ℕ} {B : Book} → Reads text B → Grew B
 reads-grew = Reading.reads-grew
 
