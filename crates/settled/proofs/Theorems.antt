@@ -8,8 +8,9 @@
 use mathlib.Core.Path.{_≡_}
 use mathlib.Core.Logic.{_↔_}
 use mathlib.Core.List.{List}
-use Prim.Native.Nat.{ℕ, suc, _<_}
-use lib.ListN.{take}
+use Prim.Native.Nat.{ℕ, suc, _≤_, _<_}
+use native.Mathlib.Omega.{arith}
+use lib.ListN.{length, take}
 use Rattle.rule.specs.declared.Book.{Book}
 use Rattle.rule.specs.declared.Figure.{Figure}
 use Rattle.rule.specs.Sets.{below}
@@ -23,7 +24,7 @@ use Rattle.pages.specs.declared.State.{State}
 use Rattle.pages.specs.declared.Line.{Line}
 use Rattle.pages.specs.Reads.{sheetOf, Reads, Receives, Written}
 use Rattle.pages.specs.Reports.{EdgeLine, ReportLine, CertificateLine, Report, Certificate}
-use Rattle.pages.specs.Steps.{Form, report, certificate, linesOf, LineOf, stepChecks, Next, Page}
+use Rattle.pages.specs.Steps.{Form, report, certificate, linesOf, LineOf, written, lineRoom, stepChecks, Next, Page}
 use Rattle.settled.proofs.Reading
 use Rattle.settled.proofs.Same.{BooksAgree}
 use Rattle.settled.proofs.Same
@@ -31,7 +32,11 @@ use Rattle.settled.proofs.Circuits
 use Rattle.settled.proofs.Stepping
 use Rattle.settled.proofs.Calls.{Calls}
 use Rattle.settled.proofs.Calls as Calling
+use Rattle.settled.proofs.Pages.{Pages}
+use Rattle.settled.proofs.Pages as Paging
 use Rattle.settled.proofs.Texts
+use Rattle.settled.proofs.Whole.{SoFar, PagesSoFar}
+use Rattle.settled.proofs.Whole
 use Rattle.settled.proofs.Trips
 
 -- ---- 1. Reading
@@ -119,11 +124,69 @@ report-determined = Texts.report-determined
 
 -- ---- 5. The calls end
 
--- from the first line on, after as many calls that write as there are lines, the answer is that all have come
-pub calls-over : (form : Form) (first t u : State) (buffer buffered : List ℕ) (answer : Line) → first .line ≡ 0
-    → Calls form first (linesOf form (first .book) (first .received)) t → Pass (stepChecks t buffer) → Next form t u buffer buffered answer
-    → answer ≡ Line.Over
-calls-over form first t u buffer buffered answer start run passed next = Calling.calls-over form first start run u buffer buffered passed answer next
+-- successive calls from the first line on, each lent a buffer of its own, that wrote these lines of a text that was read (`Calls`): line i of
+-- them is line i of the text's, they are at most as many as there are, and when all have come, and not before, the next call whose checks
+-- pass answers that it is over (`SoFar`)
+module _ (text : List ℕ) (first : State) (received : Receives text (first .book) (first .received)) (start : first .line ≡ 0) where
+  pub report-calls : (lines : List (List ℕ)) (t : State) → Calls report first lines t
+      → SoFar (Next report) (Report text) (linesOf report (first .book) (first .received)) lines t
+  report-calls = Whole.report-calls text first received start
+
+  pub certificate-calls : (lines : List (List ℕ)) (t : State) → Calls certificate first lines t
+      → SoFar (Next certificate) (Certificate text) (linesOf certificate (first .book) (first .received)) lines t
+  certificate-calls = Whole.certificate-calls text first received start
+
+  -- and so for pages (`Pages`): their bytes are such lines one behind the other, at least as many as there were pages
+  pub report-pages : (n : ℕ) (bytes : List ℕ) (t : State) → Pages report first n bytes t
+      → PagesSoFar (Page report) (Report text) (linesOf report (first .book) (first .received)) n bytes t
+  report-pages = Whole.report-pages text first received start
+
+  pub certificate-pages : (n : ℕ) (bytes : List ℕ) (t : State) → Pages certificate first n bytes t
+      → PagesSoFar (Page certificate) (Certificate text) (linesOf certificate (first .book) (first .received)) n bytes t
+  certificate-pages = Whole.certificate-pages text first received start
+
+  -- the checks pass wherever the buffer has a line's room
+  pub receives-pass : (k : ℕ) (buffer : List ℕ) → lineRoom ≤ length buffer → Pass (stepChecks (written first k) buffer)
+  receives-pass k buffer = Whole.receives-pass text first k buffer received
+
+  -- there are at most so many lines
+  pub report-few : linesOf report (first .book) (first .received) ≤ 516
+  report-few = Paging.report-few (first .book) (first .received) (Whole.receives-readable text (first .book) (first .received) received)
+
+  pub certificate-few : linesOf certificate (first .book) (first .received) ≤ 1028
+  certificate-few = Paging.certificate-few (first .book) (first .received) (Whole.receives-readable text (first .book) (first .received) received)
+
+  -- so 1,028 pages are enough: after so many, if not before, all lines have come
+  pub report-enough : (n : ℕ) (bytes : List ℕ) (t : State) (run : Pages report first n bytes t) → 1028 ≤ n
+      → length (report-pages n bytes t run .lines) ≡ linesOf report (first .book) (first .received)
+  report-enough n bytes t run many =
+      let r = report-pages n bytes t run in
+      omega (arith, r .each, r .so-far .few, report-few)
+
+  pub certificate-enough : (n : ℕ) (bytes : List ℕ) (t : State) (run : Pages certificate first n bytes t) → 1028 ≤ n
+      → length (certificate-pages n bytes t run .lines) ≡ linesOf certificate (first .book) (first .received)
+  certificate-enough n bytes t run many =
+      let r = certificate-pages n bytes t run in
+      omega (arith, r .each, r .so-far .few, certificate-few)
+
+-- of any state, however it came about: after as many calls that write as there are lines, the answer is that all have come
+pub calls-over : (form : Form) (first t u : State) (lines : List (List ℕ)) (buffer buffered : List ℕ) (answer : Line) → first .line ≡ 0
+    → Calls form first lines t → length lines ≡ linesOf form (first .book) (first .received) → Pass (stepChecks t buffer)
+    → Next form t u buffer buffered answer → answer ≡ Line.Over
+calls-over form first t u lines buffer buffered answer start run all passed next =
+    Calling.calls-over form first start run all u buffer buffered passed answer next
+
+-- a page that is written is at least one line further
+pub page-further : (form : Form) (s t : State) (buffer buffered : List ℕ) (size : ℕ) → Page form s t buffer buffered (Line.Written size)
+    → s .line < t .line
+page-further = Paging.page-further
+
+-- so after as many pages as there are lines, or more, the answer is that all have come
+pub pages-end : (form : Form) (first t u : State) (n : ℕ) (bytes buffer buffered : List ℕ) (answer : Line) → first .line ≡ 0
+    → Pages form first n bytes t → linesOf form (first .book) (first .received) ≤ n → Pass (stepChecks t buffer)
+    → Page form t u buffer buffered answer → answer ≡ Line.Over
+pages-end form first t u n bytes buffer buffered answer start run all passed next =
+    Paging.pages-end form first start run all u buffer buffered passed answer next
 
 -- ---- 6. The round trip
 
