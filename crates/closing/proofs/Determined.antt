@@ -5,7 +5,7 @@
 -- The one exception is the choice of forests and, with it, moved: docs/EXCEPTIONS.md. An offer that keeps its edge, and a text that is read, leave books
 -- that agree in all but the forests (`SameButForests`: the same edges have one); a certificate of one and the same state is determined.
 -- Assumes nothing.
-use mathlib.Core.Path.{_≡_}
+use mathlib.Core.Path.{_≡_, sym, _∙_}
 use mathlib.Core.List.{List}
 use Prim.Native.Nat.{ℕ}
 use denote.Ref.{RefT, now}
@@ -22,6 +22,7 @@ use Rattle.text.specs.declared.Judgement.{Judgement}
 use Rattle.text.specs.Judgements.{Judges, Hands}
 use Rattle.text.proofs.Answers as Answers
 use Rattle.pages.specs.declared.Received.{Received}
+use Rattle.pages.specs.declared.State.{State}
 use Rattle.pages.specs.Reads.{Receives, Written}
 use Rattle.pages.specs.Steps.{report, certificate, Next, Page}
 use Rattle.writer.proofs.Determined as Writing
@@ -72,9 +73,17 @@ judge-agrees = Answers.judge-determined
 pub fault-agrees : (text p q : RefT (List ℕ)) → Hands text p → Hands text q → (p .ptr ≡ q .ptr) × (now p ≡ now q)
 fault-agrees = Answers.hands-determined
 
--- `reader::read` and `reader::begin`
+-- `reader::read`
 pub read-agrees : (text : List ℕ) (B C : Book) (r s : Received) → Receives text B r → Receives text C s → (r ≡ s) × BooksAgree r B C
 read-agrees = Settled.receives-determined
+
+-- `reader::begin`: the answer, the line and, as for `read`, the book
+pub begin-agrees : (text : List ℕ) (s t : State) → Receives text (s .book) (s .received) × (s .line ≡ 0)
+    → Receives text (t .book) (t .received) × (t .line ≡ 0)
+    → (s .received ≡ t .received) × (s .line ≡ t .line) × BooksAgree (s .received) (s .book) (t .book)
+begin-agrees text s t p q =
+    let read = read-agrees text (s .book) (t .book) (s .received) (t .received) (p .0) (q .0) in
+    (read .0, p .1 ∙ sym (q .1), read .1)
 
 -- `writer::write`
 pub write-agrees : (B : Book) (buffer one other : List ℕ) (x y : Figure) → Written B buffer one x → Written B buffer other y → (one ≡ other) × (x ≡ y)
