@@ -205,6 +205,18 @@ fn rows() {
     design(b"listing", 1, 2, 3, b"r12 r13 k23 k23 k23 k12");
 }
 
+// A black edge between two bodies stands in a forest, and a red one beside it is offered: kept wherever the first was put.
+fn beside(name: &[u8], edges: &[u8]) {
+    say::text(name);
+    say::close(offer(laid(1, 2, 2, 1, edges), 1, 2, 1));
+}
+
+fn wherever() {
+    beside(b"k_r_forest_1", b"1221");
+    beside(b"k_r_forest_2", b"1222");
+    beside(b"k_r_forest_3", b"1223");
+}
+
 // Groups: two tight designs that share a body, two that share none, and one between whose bodies a third stands.
 fn groupings() {
     design(b"one_shared", 1, 2, 3, b"r12 k12 k12 r23 k23 k23");
@@ -335,6 +347,7 @@ fn large() {
 fn main() {
     openings();
     rows();
+    wherever();
     groupings();
     sound_books();
     damaged_edges();
