@@ -1,8 +1,10 @@
 // For the benchmark: builds the book of a text again and again. Standard input has a letter, four digits and a LF, and then a book text: after k
 // the text is read so many times, with the tables kept between offers; after o it is read once, and then so many times every edge of the book
-// goes through the public offer to a new one, which scans that first. What is printed is a sum over the books, so that the work cannot be left out.
+// goes through the public offer to a new one, which scans that first; after t the text is only judged and its lines are looked at. What is printed is a sum over the books, so that the work cannot be left out.
 ghost use Prim.Native.Nat.{_≤_, _<_};
 use rule::Book;
+use text::EdgeLine;
+use text::Judgement;
 
 fn digit(x: u8) -> usize
     ensures { λ r. ⌜ r ≤ 9 ⌝ }
@@ -57,6 +59,53 @@ fn read(text: &[u8]) -> Book {
     r.book
 }
 
+// The place past the edge lines of a text, looked at one by one.
+fn past_edges(text: &[u8], first: usize, edges: u16) -> usize {
+    let mut at = first;
+    let mut i = 0;
+    while i < edges {
+        let line = text::edge_at(text, at);
+        if let EdgeLine::Joins {
+            one: _,
+            other: _,
+            colour: _,
+            next,
+        } = line {
+            at = next;
+        }
+        i += 1;
+    }
+    at
+}
+
+// What reading does with a text, all but the offers.
+fn look(text: &[u8]) -> usize
+    ensures { λ r. ⌜ r ≤ 2805 ⌝ }
+{
+    let found = text::judge(text);
+    match found {
+        Judgement::Sheet {
+            a: _,
+            b: _,
+            n: _,
+            edges,
+            first,
+        } => past_edges(text, first, edges) % 1000,
+        Judgement::Refused(_, _) => 0,
+    }
+}
+
+// Looked at so many times.
+fn looks(times: usize, text: &[u8]) -> usize {
+    let mut sum = 0;
+    let mut i = 0;
+    while i < times {
+        sum = (sum + look(text)) % 1000003;
+        i += 1;
+    }
+    sum
+}
+
 // Read so many times.
 fn reads(times: usize, text: &[u8]) -> usize {
     let mut sum = 0;
@@ -79,12 +128,14 @@ fn offers(times: usize, book: Book) -> usize {
     sum
 }
 
-fn repeat(kept: bool, times: usize, text: &[u8]) -> usize {
-    if kept {
-        reads(times, text)
-    } else {
-        offers(times, read(text))
+fn repeat(what: u8, times: usize, text: &[u8]) -> usize {
+    if what == b'k' {
+        return reads(times, text);
     }
+    if what == b'o' {
+        return offers(times, read(text));
+    }
+    looks(times, text)
 }
 
 fn main() {
@@ -99,7 +150,7 @@ fn main() {
         + digit(whole[2]) * 100
         + digit(whole[3]) * 10
         + digit(whole[4]);
-    let sum = repeat(whole[0] == b'k', times, &whole[6..n]);
+    let sum = repeat(whole[0], times, &whole[6..n]);
     io::print_decimal(1, sum as u64);
     io::write_all(1, b"\n");
 }
