@@ -43,7 +43,7 @@ pub checks-agree : (cs : List Check) → Single cs → (more other : Type 0) (x 
 checks-agree cs single more other Fine Fine p q = refl
 checks-agree cs single more other Fine (Refused r) p q = absurd (pass-not-fail cs r (p .0) q)
 checks-agree cs single more other (Refused r) Fine p q = absurd (pass-not-fail cs r (q .0) p)
-checks-agree cs single more other (Refused r) (Refused s) p q = λ i. Refused (fail-determined cs single p q i)
+checks-agree cs single more other (Refused r) (Refused s) p q = λ i. Refused (fail-determined cs single {r = r} {s = s} p q i)
 
 -- ---- what document 01 says besides
 

@@ -84,7 +84,7 @@ module _ (B : Book) (e : ℕ) {root way edge : List ℕ} (l : Listable B e root 
   unfolding designOf
   stuck-holds list listed n fails =
       let s = asks in
-      let says = stuck-says B u v colour (s .sound) (s .one) (s .other) (fails .waiting) (fails .is-stuck) list listed (fails .fills) in
+      let says = stuck-says B u v colour (s .sound) (s .one) (s .other) (fails .waiting) (fails .is-stuck) list listed (fails .fills) (fails .as-long) in
       filled-holds list listed (says .circuit) n (fails .counts ∙ says .number) (says .fills)
       (twin-circuit (designOf B) u v colour e (l .place) (at-index (B .ones)) (at-index (B .others)) (ap (λ (z : ℕ). z =? 1) (at-index (B .colours)))
       (keptOf B) not-kept none-past (says .circuit) (says .is-circuit))

@@ -1,4 +1,6 @@
 pub mod Keys
+pub mod Answers
 pub mod Reads
 pub mod Reports
 pub mod Steps
+pub mod Texts

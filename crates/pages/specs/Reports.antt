@@ -1,6 +1,7 @@
 -- The lines of a report and of a certificate: document 01, "The report, whole". Lines are counted from 0.
 --
--- In order: the line of an edge; the report; the certificate; the refused line; the report and the certificate of a text.
+-- In order: the line of an edge; the report; the certificate; the refused line.
+-- Not here: the lines that a stepper writes (Steps.antt); the report and the certificate of a text (Texts.antt).
 --
 -- The circuit of an implied edge is taken among some kept edges, `among e`: at its offer these are the edges kept before it. (In a book that
 -- was grown from empty all kept edges give the same circuit: theorem 9 of crate theory.)
@@ -10,15 +11,15 @@ use mathlib.Core.List.{List, [], _∷_, _++_}
 use Prim.Native.Nat.{ℕ, suc, _+_, _*_, _-_, _≤_, _<_}
 use Rattle.rule.specs.declared.Book.{Book}
 use Rattle.rule.specs.declared.Reason.{Reason}
-use Rattle.rule.specs.Sets.{Is, Set, In, below, count}
+use Rattle.rule.specs.Sets.{Is, Set, In, count}
 use Rattle.rule.specs.Legal.{Design, k, Circuit}
 use Rattle.rule.specs.Figures.{freedom, dropped, verdict, Groups}
-use Rattle.rule.specs.Books.{designOf, forestOf, keptOf}
+use Rattle.rule.specs.Books.{designOf, forestOf}
 use Rattle.rule.specs.Reasons.{numberOf}
 use Rattle.text.specs.Lines.{LF, line, key-a, key-b, key-bodies, key-edges}
 use Rattle.text.specs.Sheets.{edgeText}
 use Rattle.pages.specs.Keys.{key-kept, key-implied, key-free, key-dropped, key-verdict, key-groups, key-forest, key-refused, wordOf}
-use Rattle.pages.specs.Reads.{edgeOf, Reads, RefusedAt}
+use Rattle.pages.specs.Reads.{edgeOf}
 
 -- ---- the line of an edge
 
@@ -82,18 +83,3 @@ certificateLength B = 4 + B .count + B .count
 -- refused= with the reason, a comma and the line number
 unfoldable pub refusedLine : Reason → ℕ → List ℕ
 refusedLine reason number = line key-refused (numberOf reason ∷ number ∷ [])
-
--- ---- of a text
-
--- the text is refused, and the only line says so
-abbrev pub OnlyRefused : List ℕ → ℕ → List ℕ → Type 0
-OnlyRefused text i bytes = (reason : Reason) × (number : ℕ) × RefusedAt text reason number × (i ≡ 0) × (bytes ≡ refusedLine reason number)
-
--- line i of the report of a text: a book is opened and offered the edges in order, each circuit among the edges kept before
-abbrev pub Report : List ℕ → ℕ → List ℕ → Type 0
-Report text i bytes =
-    ((B : Book) × Reads text B × ReportLine (designOf B) (keptOf B) (below (keptOf B)) i bytes) ⊎ OnlyRefused text i bytes
-
--- line i of the certificate of a text
-abbrev pub Certificate : List ℕ → ℕ → List ℕ → Type 0
-Certificate text i bytes = ((B : Book) × Reads text B × CertificateLine B (below (keptOf B)) i bytes) ⊎ OnlyRefused text i bytes

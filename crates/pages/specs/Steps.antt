@@ -8,11 +8,12 @@ use Prim.Native.Nat.{ℕ, suc, _+_, _≤_, _<_}
 use lib.ListN.{length}
 use Rattle.rule.specs.declared.Book.{Book}
 use Rattle.rule.specs.Books.{designOf, keptOf, Sound, FirstBad}
-use Rattle.rule.specs.Reasons.{Check, Pass, Fail, room}
+use Rattle.rule.specs.Reasons.{Check, Pass, FailBy, room}
 use Rattle.text.specs.Puts.{Writes}
 use Rattle.pages.specs.declared.Received.{Received}
 use Rattle.pages.specs.declared.State.{State}
 use Rattle.pages.specs.declared.Line.{Line}
+use Rattle.pages.specs.Answers.{LineSays}
 use Rattle.pages.specs.Reports.{ReportLine, CertificateLine, reportLength, certificateLength, refusedLine}
 
 -- ---- forms
@@ -57,10 +58,10 @@ abbrev pub Readable : Book → Received → Type 0
 Readable B Received.Fine = Sound B
 Readable B (Received.Refused reason number) = Unit
 
--- 7, then 8
+-- 8, then 7. A refused text has no book: of it only 7
 abbrev pub stepChecks : State → List ℕ → List Check
 stepChecks s buffer =
-    room lineRoom buffer ∷ record { must = Readable (s .book) (s .received); number = 8; with-it = FirstBad (s .book) } ∷ []
+    record { must = Readable (s .book) (s .received); number = 8; with-it = FirstBad (s .book) } ∷ room lineRoom buffer ∷ []
 
 -- ---- the next line
 
@@ -79,12 +80,18 @@ pub record NextLine (form : Form) (before after : State) (buffer buffered : List
   pub writes : Writes bytes buffer buffered size
   pub further : after ≡ written before (suc (before .line))
 
-abbrev pub Next : Form → (before after : State) (buffer buffered : List ℕ) → Line → Type 0
-Next form before after buffer buffered (Line.Written size) = NextLine form before after buffer buffered size
-Next form before after buffer buffered Line.Over =
+-- all lines have come, and nothing is changed
+abbrev pub AllCome : Form → (before after : State) (buffer buffered : List ℕ) → Type 0
+AllCome form before after buffer buffered =
     Pass (stepChecks before buffer) × (linesOf form (before .book) (before .received) ≤ before .line) × (after ≡ before) × (buffered ≡ buffer)
-Next form before after buffer buffered (Line.Refused reason) =
-    Fail (stepChecks before buffer) reason × (after ≡ before) × (buffered ≡ buffer)
+
+-- a check fails, and nothing is changed
+abbrev pub Refuses : (before after : State) (buffer buffered : List ℕ) (number place : ℕ) → Type 0
+Refuses before after buffer buffered number place = FailBy (stepChecks before buffer) number place × (after ≡ before) × (buffered ≡ buffer)
+
+abbrev pub Next : Form → (before after : State) (buffer buffered : List ℕ) → Line → Type 0
+Next form before after buffer buffered =
+    LineSays (NextLine form before after buffer buffered) (AllCome form before after buffer buffered) (Refuses before after buffer buffered)
 
 -- ---- a page
 
@@ -105,6 +112,5 @@ pub record PageOf (form : Form) (before after : State) (buffer buffered : List �
   pub whole : (linesOf form (before .book) (before .received) ≤ after .line) ⊎ (length buffer < size + lineRoom)
 
 abbrev pub Page : Form → (before after : State) (buffer buffered : List ℕ) → Line → Type 0
-Page form before after buffer buffered (Line.Written size) = PageOf form before after buffer buffered size
-Page form before after buffer buffered Line.Over = Next form before after buffer buffered Line.Over
-Page form before after buffer buffered (Line.Refused reason) = Next form before after buffer buffered (Line.Refused reason)
+Page form before after buffer buffered =
+    LineSays (PageOf form before after buffer buffered) (AllCome form before after buffer buffered) (Refuses before after buffer buffered)

@@ -1,8 +1,8 @@
 // The report and the certificate of a state, a page of lines at a time: as many lines as the lent buffer has room for, or only the next one.
 // What the lines are, and what a page and a next line leave behind, is said in crate pages.
 //
-// A page checks the buffer and then, where the text was received as a book, scans that book; so the tables hold its forests, from which the
-// circuits are listed. The lines are then written one behind the other, each into the unwritten rest of the buffer.
+// Where the text was received as a book, a page scans that book, so that the tables hold its forests, from which the circuits are listed; then it
+// checks the buffer. The lines are then written one behind the other, each into the unwritten rest of the buffer.
 //
 // Whether it is the report or the certificate is a parameter: a face for each would only say both functions and their contracts twice.
 mod certificate;
@@ -258,9 +258,19 @@ fn refusal(c: Checked) -> Line
     }
 }
 
-// The page of a book.
+// Check 7 refuses.
+fn short(state: State) -> Stepped
+    ensures { λ r. ⌜ r ≡ record { answer = Line.Refused Reason.Short; state = state } ⌝ }
+{
+    Stepped {
+        answer: Line::Refused(Reason::Short),
+        state: state,
+    }
+}
+
+// The page of a book. Checks 8, then 7.
 fn book_page(kind: Kind, state: State, buffer: &mut [u8]) -> Stepped
-    requires { ⌜ (state .received ≡ Received.Fine) × (lineRoom ≤ length (now buffer)) ⌝ }
+    requires { ⌜ state .received ≡ Received.Fine ⌝ }
     ensures { λ r. ⌜ Page (formOf kind) state (r .state) (now (buffer .entry)) (now (buffer .exit)) (r .answer) ⌝ }
 {
     let mut root = [0u8; 384];
@@ -276,6 +286,9 @@ fn book_page(kind: Kind, state: State, buffer: &mut [u8]) -> Stepped
             state: state,
         };
     };
+    if buffer.len() < 2048 {
+        return short(state);
+    }
     let first = state.line;
     if number_of_lines(kind, book) <= first {
         return Stepped {
@@ -290,11 +303,14 @@ fn book_page(kind: Kind, state: State, buffer: &mut [u8]) -> Stepped
     }
 }
 
-// The page of a refused text: one line.
+// The page of a refused text: one line. It has no book to look at, so that only 7 is checked.
 fn refused_page(state: State, reason: Reason, number: usize, buffer: &mut [u8]) -> Stepped
-    requires { ⌜ (state .received ≡ Received.Refused reason number) × (lineRoom ≤ length (now buffer)) ⌝ }
+    requires { ⌜ state .received ≡ Received.Refused reason number ⌝ }
     ensures { λ r. ⌜ ((kind : Kind) → Page (formOf kind) state (r .state) (now (buffer .entry)) (now (buffer .exit)) (r .answer)) ⌝ }
 {
+    if buffer.len() < 2048 {
+        return short(state);
+    }
     let first = state.line;
     if 0 < first {
         return Stepped {
@@ -309,23 +325,10 @@ fn refused_page(state: State, reason: Reason, number: usize, buffer: &mut [u8]) 
     }
 }
 
-// Check 7 refuses.
-fn short(state: State) -> Stepped
-    ensures { λ r. ⌜ r ≡ record { answer = Line.Refused Reason.Short; state = state } ⌝ }
-{
-    Stepped {
-        answer: Line::Refused(Reason::Short),
-        state: state,
-    }
-}
-
-// As many lines as there are and the buffer has room for. Checks 7, then 8 where the text was received as a book.
+// As many lines as there are and the buffer has room for. Checks 8 where the text was received as a book, then 7.
 pub fn page(kind: Kind, state: State, buffer: &mut [u8]) -> Stepped
     ensures { λ r. ⌜ Page (formOf kind) state (r .state) (now (buffer .entry)) (now (buffer .exit)) (r .answer) ⌝ }
 {
-    if buffer.len() < 2048 {
-        return short(state);
-    }
     let received = state.received;
     match received {
         Received::Fine => book_page(kind, state, buffer),
@@ -338,7 +341,7 @@ pub fn next(kind: Kind, state: State, buffer: &mut [u8]) -> Stepped
     ensures { λ r. ⌜ Next (formOf kind) state (r .state) (now (buffer .entry)) (now (buffer .exit)) (r .answer) ⌝ }
 {
     if buffer.len() < 2048 {
-        return short(state);
+        return page(kind, state, buffer);
     }
     page(kind, state, &mut buffer[..2048])
 }

@@ -100,10 +100,10 @@ module _ (B : Book) (u v colour : ℕ) (sound : Sound B) (hu : In (B .n) u) (hv 
   -- ---- it did not
 
   module _ (w : Waiting) (q : search (offered B u v colour) (forestsFor B) (next B) ≡ going w) where
-    pub stuck-says : (list listed : List ℕ) → Filled (numbers (w .seen without next B) (next B)) list listed
+    pub stuck-says : (list listed : List ℕ) → Filled (numbers (w .seen without next B) (next B)) list listed → length listed ≡ length list
         → ImpliesIt B u v colour list listed (length (numbers (w .seen without next B) (next B)))
     unfolding plus designOf
-    stuck-says list listed fills =
+    stuck-says list listed fills long =
         record {
           implies = subst (λ (s : Set). Implies d s (next B)) (kept-longer (designOf B) u v colour (forestOf B)) (stuck-implied d offered-ends phi offered-arranged (next B) offered-last offered-unplaced w q);
           circuit = numbers (w .seen without next B) (next B);
@@ -112,4 +112,5 @@ module _ (B : Book) (u v colour : ℕ) (sound : Sound B) (hu : In (B .n) u) (hv 
               (circuit-list d offered-ends phi offered-arranged (next B) offered-last offered-unplaced w q);
           number = refl;
           fills = fills;
+          as-long = long;
         }

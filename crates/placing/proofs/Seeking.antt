@@ -182,9 +182,10 @@ module _ (B : Book) (u v colour : ℕ) {root way edge : List ℕ} (s : Seekable 
           queued = ap (λ (z : ℕ). take z queue) (r .holds .0) ∙ r .holds .1 .queued;
         }
 
-    pub fails-there : (list listed : List ℕ) (len : ℕ) → Listed (waits .w) (waits .d .m) n list listed len → Fails B u v colour list listed len × (len < 65536)
+    pub fails-there : (list listed : List ℕ) (len : ℕ) → length listed ≡ length list → Listed (waits .w) (waits .d .m) n list listed len
+        → Fails B u v colour list listed len × (len < 65536)
     unfolding waits plus designOf
-    fails-there list listed len l = (
-      record { waiting = r .waiting; is-stuck = r .is; fills = l .in-order; counts = l .counts },
+    fails-there list listed len long l = (
+      record { waiting = r .waiting; is-stuck = r .is; fills = l .in-order; counts = l .counts; as-long = long },
       omega (arith, l .one-fewer, waits .few),
     )

@@ -112,7 +112,9 @@ module _ (B : Book) (u v colour : ℕ) {list root way who edge size : List ℕ} 
           offer =
               record {
                 checked = t .checked;
-                says = subst (ImpliesIt B u v colour list listed) (sym (f .counts)) (stuck-says B u v colour sound hu hv (f .waiting) (f .is-stuck) list listed (f .fills));
+                says =
+                    subst (ImpliesIt B u v colour list listed) (sym (f .counts))
+                    (stuck-says B u v colour sound hu hv (f .waiting) (f .is-stuck) list listed (f .fills) (f .as-long));
                 adds = adds entered;
                 forests = l .nowhere;
               };

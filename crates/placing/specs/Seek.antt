@@ -57,6 +57,7 @@ pub record Fails (B : Book) (u v colour : ℕ) (list listed : List ℕ) (n : ℕ
   pub is-stuck : search (offered B u v colour) (forestsFor B) (next B) ≡ going waiting
   pub fills : Filled (numbers (waiting .seen without next B) (next B)) list listed
   pub counts : n ≡ length (numbers (waiting .seen without next B) (next B))
+  pub as-long : length listed ≡ length list
 
 -- what seeking answers and leaves in the arrays
 abbrev pub Seeks : Book → (u v colour : ℕ) (list path′ listed : List ℕ) → Place → Type 0

@@ -1,6 +1,7 @@
 -- What each call answers and leaves behind, for every input, refusals included.
 --
--- In order: a book of zeros; opening; an offer; a question; freedom, dropped and the verdict; the group list.
+-- In order: a book of zeros; opening; an offer; a question; freedom, dropped and the verdict; the group list. Each goes through the cases of its answer
+-- as Answers.antt does.
 -- The base leaves one thing open, the choice of forests and with it moved: an offer may choose any permitted forests.
 use mathlib.Core.Path.{_≡_}
 use mathlib.Core.Logic.{_↔_}
@@ -10,7 +11,6 @@ use Prim.Native.Nat.{ℕ, suc, _≤_, _<_}
 use lib.ListN.{length, getD, set, take, drop, replicate}
 use Rattle.rule.specs.declared.Book.{Book}
 use Rattle.rule.specs.declared.Answer.{Answer}
-use Rattle.rule.specs.declared.Answer.the-variants.{Kept, Implied, Refused}
 use Rattle.rule.specs.declared.Done.{Done}
 use Rattle.rule.specs.declared.Figure.{Figure}
 use Rattle.rule.specs.declared.Judged.{Judged}
@@ -19,7 +19,8 @@ use Rattle.rule.specs.Legal.{Design, Keeps, Implies, Circuit}
 use Rattle.rule.specs.Forests.{keptIn, Arranged, moved}
 use Rattle.rule.specs.Figures.{freedom, dropped, verdict, Groups}
 use Rattle.rule.specs.Books.{designOf, forestOf, keptOf, offered, next}
-use Rattle.rule.specs.Reasons.{Pass, Fail, openingChecks, questionChecks, offerChecks, bookChecks, groupsChecks}
+use Rattle.rule.specs.Reasons.{Pass, FailBy, openingChecks, questionChecks, offerChecks, bookChecks, groupsChecks}
+use Rattle.rule.specs.Answers.{AnswerSays, DoneSays, FigureSays, JudgedSays}
 
 -- ---- books
 
@@ -58,8 +59,9 @@ Filled answer list listed = listed ≡ answer ++ drop (length answer) list
 -- ---- opening
 
 abbrev pub Open : (a b n : ℕ) → Book → Done → Type 0
-Open a b n book Done.Fine = Pass (openingChecks a b n) × (book ≡ newBook a b n)
-Open a b n book (Done.Refused reason) = Fail (openingChecks a b n) reason × (book ≡ zeroBook)
+Open a b n book =
+    DoneSays (Pass (openingChecks a b n) × (book ≡ newBook a b n))
+    (λ number place. FailBy (openingChecks a b n) number place × (book ≡ zeroBook))
 
 -- ---- what is said of an offered edge
 
@@ -72,13 +74,14 @@ pub record KeepsIt (B : Book) (u v colour : ℕ) (forest : ℕ → ℕ) (count :
   pub earlier : (e : ℕ) → In (B .count) e → ((1 ≤ forest e) ↔ (1 ≤ forestOf B e))
   pub moves : count ≡ moved (forestOf B) forest (B .count)
 
--- it is implied. So many edges are its circuit, and the first places of the list hold them
+-- it is implied. So many edges are its circuit, and the first places of the list, which keeps its length, hold them
 pub record ImpliesIt (B : Book) (u v colour : ℕ) (list listed : List ℕ) (count : ℕ) : Type 0 where
   pub implies : Implies (offered B u v colour) (keptOf B) (next B)
   pub circuit : List ℕ
   pub is-circuit : Circuit (offered B u v colour) (keptOf B) (next B) circuit
   pub number : count ≡ length circuit
   pub fills : Filled circuit list listed
+  pub as-long : length listed ≡ length list
 
 -- ---- an offer
 
@@ -97,10 +100,9 @@ pub record OfferImplied (before after : Book) (u v colour : ℕ) (list listed : 
   pub forests : after .forests ≡ set (before .forests) (before .count) 0
 
 abbrev pub Offer : (before after : Book) (u v colour : ℕ) (list listed : List ℕ) → Answer → Type 0
-Offer before after u v colour list listed (Kept count) = OfferKept before after u v colour list listed count
-Offer before after u v colour list listed (Implied count) = OfferImplied before after u v colour list listed count
-Offer before after u v colour list listed (Refused reason) =
-    Fail (offerChecks before u v colour list) reason × (after ≡ before) × (listed ≡ list)
+Offer before after u v colour list listed =
+    AnswerSays (OfferKept before after u v colour list listed) (OfferImplied before after u v colour list listed)
+    (λ number place. FailBy (offerChecks before u v colour list) number place × (after ≡ before) × (listed ≡ list))
 
 -- ---- a question: it answers as an offer would, may be asked of a full book, and changes nothing in the book
 
@@ -115,30 +117,28 @@ pub record QuestionImplied (B : Book) (u v colour : ℕ) (list listed : List ℕ
   pub says : ImpliesIt B u v colour list listed count
 
 abbrev pub Question : Book → (u v colour : ℕ) (list listed : List ℕ) → Answer → Type 0
-Question B u v colour list listed (Kept count) = QuestionKept B u v colour list listed count
-Question B u v colour list listed (Implied count) = QuestionImplied B u v colour list listed count
-Question B u v colour list listed (Refused reason) = Fail (questionChecks B u v colour list) reason × (listed ≡ list)
+Question B u v colour list listed =
+    AnswerSays (QuestionKept B u v colour list listed) (QuestionImplied B u v colour list listed)
+    (λ number place. FailBy (questionChecks B u v colour list) number place × (listed ≡ list))
 
 -- ---- freedom, dropped, verdict
 
 abbrev pub Freedom : Book → Figure → Type 0
-Freedom B (Figure.Number number) = Pass (bookChecks B) × (number ≡ freedom (designOf B) (keptOf B))
-Freedom B (Figure.Refused reason) = Fail (bookChecks B) reason
+Freedom B = FigureSays (λ figure. Pass (bookChecks B) × (figure ≡ freedom (designOf B) (keptOf B))) (FailBy (bookChecks B))
 
 abbrev pub Dropped : Book → Figure → Type 0
-Dropped B (Figure.Number number) = Pass (bookChecks B) × (number ≡ dropped (designOf B) (keptOf B))
-Dropped B (Figure.Refused reason) = Fail (bookChecks B) reason
+Dropped B = FigureSays (λ figure. Pass (bookChecks B) × (figure ≡ dropped (designOf B) (keptOf B))) (FailBy (bookChecks B))
 
 abbrev pub Judge : Book → Judged → Type 0
-Judge B (Judged.Verdict v) = Pass (bookChecks B) × (v ≡ verdict (designOf B) (keptOf B))
-Judge B (Judged.Refused reason) = Fail (bookChecks B) reason
+Judge B = JudgedSays (λ judged. Pass (bookChecks B) × (judged ≡ verdict (designOf B) (keptOf B))) (FailBy (bookChecks B))
 
 -- ---- the group list
 
 abbrev pub Grouped : Book → (list listed : List ℕ) → Done → Type 0
-Grouped B list listed Done.Fine =
-    Pass (groupsChecks B list)
+Grouped B list listed =
+    DoneSays
+    (Pass (groupsChecks B list)
     × Groups (designOf B) (keptOf B) (take (B .n) listed)
     × (drop (B .n) listed ≡ drop (B .n) list)
-    × (length listed ≡ length list)
-Grouped B list listed (Done.Refused reason) = Fail (groupsChecks B list) reason × (listed ≡ list)
+    × (length listed ≡ length list))
+    (λ number place. FailBy (groupsChecks B list) number place × (listed ≡ list))

@@ -4,4 +4,5 @@ pub mod Forests
 pub mod Figures
 pub mod Books
 pub mod Reasons
+pub mod Answers
 pub mod Calls

@@ -50,11 +50,14 @@ abbrev pub Pass : List Check → Type 0
 Pass [] = Unit
 Pass (c ∷ rest) = c .must × Pass rest
 
+-- the first check that fails says this number, and this place comes with it
+abbrev pub FailBy : List Check → (number place : ℕ) → Type 0
+FailBy [] number place = ⊥
+FailBy (c ∷ rest) number place = (¬ (c .must) × (number ≡ c .number) × c .with-it place) ⊎ (c .must × FailBy rest number place)
+
 -- the reason is what the first check that fails says
 abbrev pub Fail : List Check → Reason → Type 0
-Fail [] reason = ⊥
-Fail (c ∷ rest) reason =
-    (¬ (c .must) × (numberOf reason ≡ c .number) × c .with-it (placeOf reason)) ⊎ (c .must × Fail rest reason)
+Fail checks reason = FailBy checks (numberOf reason) (placeOf reason)
 
 -- ---- the checks by themselves
 

@@ -140,6 +140,15 @@ module _ (B : Book) (among : ℕ → Set) where
   pub certificate-line-determined : (i : ℕ) → Determined (CertificateLine B among i)
   certificate-line-determined i x y p q = piece-determined i x y (piece-of i x p) (piece-of i y q)
 
+  -- so far behind the edges stands the line of an edge's forest
+  pub certificate-line-forest : (e : ℕ) → In (B .count) e → {bytes : List ℕ} → CertificateLine B among (B .count + e + 3) bytes → ForestLine B among e bytes
+  certificate-line-forest e h (profile-a q l) = absurd (omega arith)
+  certificate-line-forest e h (profile-b q l) = absurd (omega arith)
+  certificate-line-forest e h (bodies q l) = absurd (omega arith)
+  certificate-line-forest e h (edges q l) = absurd (omega (arith, h .low))
+  certificate-line-forest e h (edge f r q l) = absurd (omega (arith, h .low, r .high))
+  certificate-line-forest e h {bytes} (forest f r q l) = subst (λ (z : ℕ). ForestLine B among z bytes) (omega arith) l
+
   pub certificate-line-within : {i : ℕ} {bytes : List ℕ} → CertificateLine B among i bytes → i < certificateLength B
   certificate-line-within (profile-a h l) = omega arith
   certificate-line-within (profile-b h l) = omega arith

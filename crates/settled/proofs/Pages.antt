@@ -54,7 +54,7 @@ module _ (form : Form) (s t : State) (buffer buffered : List ℕ) where
           → (linesOf form (s .book) (s .received) ≤ t .line) ⊎ (length buffer < size + lineRoom) → s .line < t .line
       begun (inl h) whole = h
       begun (inr q) (inl all) = absurd (omega (arith, q .0, p .more))
-      begun (inr q) (inr short) = absurd (omega (arith, ap length (q .1), p .writes .number, p .checked .0))
+      begun (inr q) (inr short) = absurd (omega (arith, ap length (q .1), p .writes .number, p .checked .1 .0))
 
   -- where no line is left, it says so
   pub page-over : Pass (stepChecks s buffer) → linesOf form (s .book) (s .received) ≤ s .line → (answer : Line) → Page form s t buffer buffered answer

@@ -49,7 +49,7 @@ module _ (form : Form) (det : LinesDetermined form) (s : State) (buffer : List �
   lines = linesOf form (s .book) (s .received)
 
   single : Single (stepChecks s buffer)
-  single = (nothing-single, (place-single (s .book), tt))
+  single = (place-single (s .book), (nothing-single, tt))
 
   -- a stepper whose answers are those of `next`, but for what is written
   module _ (P : State → List ℕ → Line → Type 0)

@@ -3,7 +3,7 @@
 --
 -- Reading gives a grown book, so its lines are those with each circuit among the edges kept before (Circuits.antt). Any other book that the
 -- text gives has the same design and keeps the same edges (Same.antt), and a report names nothing else. A certificate names forests, which
--- the text does not determine: there one direction holds.
+-- the text does not determine: its lines are those of the one book that was read.
 -- Assumes nothing.
 use mathlib.Core.Path.{_≡_, sym, ap₂, _∙_, subst, subst₂}
 use mathlib.Core.Logic.{_⊎_, inl, inr, _↔_}
@@ -15,10 +15,12 @@ use Rattle.rule.specs.declared.Reason.{Reason}
 use Rattle.rule.specs.Sets.{Set, below}
 use Rattle.rule.specs.Legal.{Design}
 use Rattle.rule.specs.Books.{designOf, keptOf}
+use Rattle.text.specs.Faults.{RefusedAt}
 use Rattle.pages.specs.declared.Received.{Received}
-use Rattle.pages.specs.Reads.{Reads, RefusedAt, Receives}
-use Rattle.pages.specs.Reports.{ReportLine, CertificateLine, refusedLine, OnlyRefused, Report, Certificate}
+use Rattle.pages.specs.Reads.{Reads, Receives}
+use Rattle.pages.specs.Reports.{ReportLine, CertificateLine, refusedLine}
 use Rattle.pages.specs.Steps.{Form, report, certificate, linesOf, LineOf}
+use Rattle.pages.specs.Texts.{OnlyRefused, Report, CertificateOf}
 use Rattle.settled.proofs.Reading.{reads-grew}
 use Rattle.settled.proofs.Same.{reads-same, same-design, same-kept, reads-not-refused, refused-determined}
 use Rattle.settled.proofs.Circuits.{report-settled, certificate-settled}
@@ -69,30 +71,23 @@ module _ (text : List ℕ) (B : Book) (i : ℕ) (bytes : List ℕ) where
   pub report-of-text : (r : Received) → Receives text B r → i < linesOf report B r → (LineOf report B r i bytes ↔ Report text i bytes)
   report-of-text r p h = (to-report r p h, from-report r p)
 
-  -- and of a certificate of it
-  pub certificate-of-text : (r : Received) → Receives text B r → i < linesOf certificate B r → LineOf certificate B r i bytes → Certificate text i bytes
-  certificate-of-text Received.Fine p h l = let g = reads-grew p in inl (B, p, certificate-settled B (g .sound) (g .grown) i bytes .0 l)
-  certificate-of-text (Received.Refused reason number) p h l = inr (reason, number, p .0, omega arith, l)
+  -- and of the certificate of that book
+  certificate-of-book : Reads text B → (LineOf certificate B Received.Fine i bytes ↔ CertificateOf B Received.Fine i bytes)
+  certificate-of-book p = let g = reads-grew p in certificate-settled B (g .sound) (g .grown) i bytes
+
+  pub certificate-of-text : (r : Received) → Receives text B r → i < linesOf certificate B r → (LineOf certificate B r i bytes ↔ CertificateOf B r i bytes)
+  certificate-of-text Received.Fine p h = certificate-of-book p
+  certificate-of-text (Received.Refused reason number) p h = ((λ l. (omega arith, l)), (λ l. l .1))
 
   -- ---- how many lines there are
 
-  -- a report or a certificate of the text, where its number of lines is that of the book that was read
-  of-text-within : (form : Form) (Says : Book → Type 0) → ((C : Book) → Says C → i < form .number C)
-      → ((C : Book) → B .count ≡ C .count → form .number C ≡ form .number B) → (r : Received) → Receives text B r
-      → ((C : Book) × Reads text C × Says C) ⊎ OnlyRefused text i bytes → i < linesOf form B r
-  of-text-within form Says within number Received.Fine p (inl q) =
-      subst (λ (m : ℕ). i < m) (number (q .0) (reads-same p (q .1) .count)) (within (q .0) (q .2))
-  of-text-within form Says within number Received.Fine p (inr q) = reads-not-refused p (q .2)
-  of-text-within form Says within number (Received.Refused reason line) p (inl q) = reads-not-refused (q .1) (p .0)
-  of-text-within form Says within number (Received.Refused reason line) p (inr q) = omega (arith, q .3)
-
   pub report-within : (r : Received) → Receives text B r → Report text i bytes → i < linesOf report B r
   unfolding designOf
-  report-within =
-      of-text-within report (λ C. ReportLine (designOf C) (keptOf C) (below (keptOf C)) i bytes)
-      (λ C l. report-line-within (designOf C) (keptOf C) (below (keptOf C)) l) (λ C q. omega arith)
+  report-within Received.Fine p (inl q) = report-line-within (designOf B) (keptOf B) (below (keptOf B)) (report-same (q .1) p (q .2))
+  report-within Received.Fine p (inr q) = reads-not-refused p (q .2)
+  report-within (Received.Refused reason line) p (inl q) = reads-not-refused (q .1) (p .0)
+  report-within (Received.Refused reason line) p (inr q) = omega (arith, q .3)
 
-  pub certificate-within : (r : Received) → Receives text B r → Certificate text i bytes → i < linesOf certificate B r
-  certificate-within =
-      of-text-within certificate (λ C. CertificateLine C (below (keptOf C)) i bytes) (λ C l. certificate-line-within C (below (keptOf C)) l)
-      (λ C q. omega arith)
+  pub certificate-within : (r : Received) → CertificateOf B r i bytes → i < linesOf certificate B r
+  certificate-within Received.Fine l = certificate-line-within B (below (keptOf B)) l
+  certificate-within (Received.Refused reason line) l = omega (arith, l .0)

@@ -71,7 +71,7 @@ module _ (B : Book) (u v colour : ℕ) {list root way edge : List ℕ} (a : Aska
         checked = a .checked;
         says =
             subst (ImpliesIt B u v colour list listed) (sym (f .counts))
-            (stuck-says B u v colour (s .sound) (s .one) (s .other) (f .waiting) (f .is-stuck) list listed (f .fills));
+            (stuck-says B u v colour (s .sound) (s .one) (s .other) (f .waiting) (f .is-stuck) list listed (f .fills) (f .as-long));
       }
 
 -- ---- the book after an offer

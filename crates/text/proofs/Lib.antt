@@ -16,3 +16,4 @@ pub mod Walks
 pub mod LineEnds
 pub mod Answers
 pub mod Overwrites
+pub mod Cuts

@@ -8,14 +8,15 @@ use mathlib.Core.Logic.{_≢_}
 use mathlib.Core.List.{List, [], _∷_, _++_, append-assoc}
 use Prim.Native.Nat.{ℕ, _+_, _≤_, _<_}
 use native.Mathlib.Omega.{arith}
-use lib.ListN.{length, drop}
-use lib.Seq.{drop-drop, drop-append-seam}
+use lib.ListN.{length, take, drop, length-append}
+use lib.Seq.{drop-drop, drop-append-seam, take-append-seam, take-at}
 use Rattle.rule.specs.Sets.{Is}
 use Rattle.rule.proofs.Tests.{cases}
 use Rattle.text.specs.declared.Reading.the-variants.{Value, Nothing}
 use Rattle.text.specs.Lines.{numeral, Number, LF, comma, listed, line}
 use Rattle.text.specs.Readings.{digitOf, begins, beginsAt, readNumberLine}
 use Rattle.text.proofs.Picks.{pick-is, pick-not}
+use Rattle.text.proofs.Numerals.{numeral-determined}
 use Rattle.text.proofs.Scans.{no-digit}
 use Rattle.text.proofs.Keys.{begins-of, begins-is, begins-at-in, begins-at-within}
 use Rattle.text.proofs.Fields.{past-front, field-complete, field-determined, field-sound}
@@ -59,6 +60,18 @@ pub after-key : (key r q : List ℕ) → key ++ r ≡ key ++ q → r ≡ q
 after-key key r q e = sym (drop-append-seam key r) ∙ ap (drop (length key)) e ∙ drop-append-seam key q
 
 -- ---- a number line
+
+-- a line of a key and one number is of one number, however many digits it has
+pub line-number-determined : (key : List ℕ) (n m : ℕ) → line key (n ∷ []) ≡ line key (m ∷ []) → n ≡ m
+line-number-determined key n m q =
+    let rest : numeral n ++ LF ∷ [] ≡ numeral m ++ LF ∷ [] =
+    after-key key _ _ (sym (line-one key n []) ∙ ap (λ (s : List ℕ). s ++ []) q ∙ line-one key m []) in
+    let long : length (numeral n) ≡ length (numeral m) =
+    omega (arith, ap length rest, length-append (numeral n) (LF ∷ []), length-append (numeral m) (LF ∷ [])) in
+    numeral-determined n m
+    (sym (take-append-seam (numeral n) (LF ∷ []))
+    ∙ ap (take (length (numeral n))) rest
+    ∙ take-at (numeral m) (LF ∷ []) (length (numeral n)) (sym long))
 
 module _ (key : List ℕ) where
   pub number-line-determined : (n m : ℕ) (r q : List ℕ) → Number n → Number m → line key (n ∷ []) ++ r ≡ line key (m ∷ []) ++ q

@@ -61,3 +61,7 @@ pub record FirstFault (text : List ℕ) (f : Fault) : Type 0 where
   pub number : f .line ≡ suc (linesOf said)
   pub at-fault : Faulty said (drop (f .start) text) (f .reason)
   pub part : f .size ≡ length (firstLine (drop (f .start) text))
+
+-- the text has its first fault in this line, for this reason
+abbrev pub RefusedAt : List ℕ → Reason → (line : ℕ) → Type 0
+RefusedAt text reason line = (f : Fault) × FirstFault text f × (reason ≡ f .reason) × (line ≡ f .line)

@@ -17,7 +17,7 @@ use Rattle.text.specs.declared.EdgeLine.the-variants.{Joins}
 use Rattle.text.specs.Lines.{firstLine}
 use Rattle.text.specs.Sheets.{Edge, Sheet, SheetRange, edgesText, headText, textOf}
 use Rattle.text.specs.Due.{nothing, to-edges}
-use Rattle.text.specs.Faults.{Leads, Fault, FirstFault}
+use Rattle.text.specs.Faults.{Leads, Fault, FirstFault, RefusedAt}
 
 -- ---- a walk along the edge lines
 
@@ -71,9 +71,14 @@ TextFound text (Found.Fault reason line at) = FaultAt text reason line at
 
 -- ---- judge
 
+-- the answer's cases: a sheet with its numbers and the place of its first edge line; or refused, with the reason, whose number `numberOf` of crate rule gives,
+-- and the number of the line at fault
+abbrev pub JudgementSays : (sheet : (a b n edges first : ℕ) → Type 0) (refused : Reason → (line : ℕ) → Type 0) → Judgement → Type 0
+JudgementSays sheet refused (Judgement.Sheet a b n edges first) = sheet a b n edges first
+JudgementSays sheet refused (Judgement.Refused reason line) = refused reason line
+
 abbrev pub Judges : List ℕ → Judgement → Type 0
-Judges text (Judgement.Sheet a b n edges first) = IsSheet text a b n edges first
-Judges text (Judgement.Refused reason line) = (f : Fault) × FirstFault text f × (reason ≡ f .reason) × (line ≡ f .line)
+Judges text = JudgementSays (IsSheet text) (RefusedAt text)
 
 -- ---- fault
 

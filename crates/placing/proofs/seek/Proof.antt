@@ -129,7 +129,7 @@ fails c s =
     let start = start-of at in
     let come = stuck-come told s in
     fails-there (book start) (start .args .u) (start .args .v) (start .args .colour) s _ (queue-of at) (from-of at) come (start .args .list .now) _
-    (c .circuit .result)
+    (c .circuit .result) (c .circuit .kept .1 .1 .0)
     (c .circuit .ensures (waits (book start) (start .args .u) (start .args .v) (start .args .colour) s _ (queue-of at) (from-of at) come))
 
 cast-t37 : tie.Need-cast-t37
