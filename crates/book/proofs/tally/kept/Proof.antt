@@ -1,4 +1,4 @@
--- `book::kept`: so far, the placed ones of the first e edges are counted.
+-- `book::kept`: so far, the placed ones of the first e edges are counted. The test is read as what it says of the forest, not by how it is written.
 use borrow.Author.Needs.{needs}
 use mathlib.Core.Path.{_≡_, _∙_, subst}
 use mathlib.Core.Logic.{⊎-elim}
@@ -30,8 +30,8 @@ loop-again c =
     let loop = c .before .before .before in
     let forests = loop .before .args .forests .now in (
       omega (arith, c .before .before .loop-test .taken),
-      ⊎-elim (λ w. w .1 ∙ one-placed forests (loop .loop .e) (loop .loop .found) (loop .loop .inv .1) (w .0 .taken))
-          (λ w. w .1 ∙ none-placed forests (loop .loop .e) (loop .loop .found) (loop .loop .inv .1) (w .0 .left)) (c .if1 .came),
+      ⊎-elim (λ w. w .1 ∙ one-placed forests (loop .loop .e) (loop .loop .found) (loop .loop .inv .1) (omega (arith, w .0 .taken)))
+          (λ w. w .1 ∙ none-placed forests (loop .loop .e) (loop .loop .found) (loop .loop .inv .1) (omega (arith, w .0 .left))) (c .if1 .came),
     )
 
 returns : tie.Need-returns Inv-loop μ-loop
