@@ -4,8 +4,8 @@
 -- place (`Reached`). What stood at a place stands there still when more edges wait behind (`Grows`).
 -- Assumes nothing.
 use mathlib.Core.Path.{_≡_, refl, sym, ap, ap₂, _∙_, subst, subst₂}
-use mathlib.Core.Logic.{_⊎_, inl, inr, ⊎-elim, _≢_}
-use mathlib.Core.Bool.{Bool}
+use mathlib.Core.Logic.{_⊎_, inl, inr, ⊎-elim, _↔_, _≢_}
+use mathlib.Core.Bool.{Bool, true, false, false≢true}
 use mathlib.Core.List.{List, [], _∷_, _++_}
 use Prim.Native.Nat.{ℕ, zero, suc, _+_, _≤_, _<_}
 use native.Mathlib.Omega.{arith}
@@ -14,7 +14,7 @@ use lib.Seq.{getD-append-add}
 use Rattle.rule.specs.Sets.{Is, _and_, _or_, isnt, _=?_, Set, In, numbers}
 use Rattle.rule.specs.Legal.{Design}
 use Rattle.rule.specs.Forests.{limit, inForest}
-use Rattle.rule.proofs.Tests.{cases, and-make, and-l, and-r, or-l, or-r, or-elim, isnt-make, isnt-not, eq-of, eq-self}
+use Rattle.rule.proofs.Tests.{cases, never, eq-of, eq-self}
 use Rattle.theory.specs.Joined.{onPath}
 use Rattle.theory.specs.Exchange.{Arc}
 use Rattle.theory.specs.Search.{Waiting, edgeAt, fromAt, begin, fresh, reach}
@@ -76,6 +76,32 @@ begin-reached d forest e h =
 
 -- ---- one edge reaches those on its path in forest i
 
+-- the two tests of a step, read as what they say of an edge y, in whatever order they are written
+module _ (d : Design) (forest : ℕ → ℕ) (x i y : ℕ) (w : Waiting) where
+  -- new is what is on the path and was not seen
+  fresh-iff : Is (fresh d forest w x i y) ↔ (Is (onPath d (inForest forest i) x y) × ¬ (Is (w .seen y)))
+  unfolding fresh _and_ _or_ isnt
+  fresh-iff = go (onPath d (inForest forest i) x y) (w .seen y) refl refl
+    where
+      go : (p s : Bool) → onPath d (inForest forest i) x y ≡ p → w .seen y ≡ s
+          → (Is (fresh d forest w x i y) ↔ (Is (onPath d (inForest forest i) x y) × ¬ (Is (w .seen y))))
+      go true true p s = ((λ h. never (simp (p, s) at h)), (λ h. absurd (h .1 s)))
+      go true false p s = ((λ _. (p, λ t. false≢true (sym s ∙ t))), (λ _. simp (p, s)))
+      go false true p s = ((λ h. never (simp (p, s) at h)), (λ h. absurd (h .1 s)))
+      go false false p s = ((λ h. never (simp (p, s) at h)), (λ h. absurd (false≢true (sym p ∙ h .0))))
+
+  -- seen after it is what was seen before, and what is on the path
+  seen-iff : (place : ℕ) → Is (reach d forest place x i w .seen y) ↔ (Is (w .seen y) ⊎ Is (onPath d (inForest forest i) x y))
+  unfolding reach fresh _and_ _or_ isnt
+  seen-iff place = go (onPath d (inForest forest i) x y) (w .seen y) refl refl
+    where
+      go : (p s : Bool) → onPath d (inForest forest i) x y ≡ p → w .seen y ≡ s
+          → (Is (reach d forest place x i w .seen y) ↔ (Is (w .seen y) ⊎ Is (onPath d (inForest forest i) x y)))
+      go true true p s = ((λ _. inl s), (λ _. simp (p, s)))
+      go true false p s = ((λ _. inr p), (λ _. simp (p, s)))
+      go false true p s = ((λ _. inl s), (λ _. simp (p, s)))
+      go false false p s = ((λ h. never (simp (p, s) at h)), ⊎-elim (λ t. absurd (false≢true (sym s ∙ t))) (λ t. absurd (false≢true (sym p ∙ t))))
+
 -- those that are new, and what waits then
 abbrev news : Design → (ℕ → ℕ) → (place i : ℕ) → Waiting → List ℕ
 news d forest place i w = numbers (fresh d forest w (edgeAt w place) i) (d .m)
@@ -106,15 +132,15 @@ module _ (d : Design) (forest : ℕ → ℕ) (e place i : ℕ) (w : Waiting) (r 
     arc : Arc d forest (edgeAt w place) y
 
   new-at : (j : ℕ) → j < length (news d forest place i w) → New (getD (news d forest place i w) j 0)
-  unfolding fresh
   new-at j h =
       let k = numbers-at (fresh d forest w (edgeAt w place) i) (d .m) j h in
       let y = getD (news d forest place i w) j 0 in
-      let path : Is (onPath d (inForest forest i) (edgeAt w place) y) = and-l _ _ (k .1) in
+      let new = fresh-iff d forest (edgeAt w place) i y w .0 (k .1) in
+      let path : Is (onPath d (inForest forest i) (edgeAt w place) y) = new .0 in
       let in-i : forest y ≡ i = forest-is forest i y (path-in d (inForest forest i) (edgeAt w place) y path) in
       record {
         edge = k .0;
-        unseen = isnt-not _ (and-r (onPath d (inForest forest i) (edgeAt w place) y) _ (k .1));
+        unseen = new .1;
         stands = in-i;
         arc =
             record {
@@ -163,9 +189,10 @@ module _ (d : Design) (forest : ℕ → ℕ) (e place i : ℕ) (w : Waiting) (r 
   -- a new edge has a place
   new-place : (y : ℕ) → Is (onPath d (inForest forest i) (edgeAt w place) y) → ¬ (Is (w .seen y))
       → (p : ℕ) × ((p < size (reaching d forest place i w)) × (edgeAt (reaching d forest place i w) p ≡ y))
-  unfolding reach fresh
+  unfolding reach
   new-place y path unseen =
-      let k = numbers-has (fresh d forest w (edgeAt w place) i) (d .m) y (path-edge d (inForest forest i) (edgeAt w place) y path) (and-make _ _ path (isnt-make _ unseen)) in
+      let new = fresh-iff d forest (edgeAt w place) i y w .1 (path, unseen) in
+      let k = numbers-has (fresh d forest w (edgeAt w place) i) (d .m) y (path-edge d (inForest forest i) (edgeAt w place) y path) new in
       (size w + k .0, (omega (arith, k .1 .0, reach-size), getD-append-add (w .queue) (news d forest place i w) (k .0) 0 ∙ k .1 .1))
 
   old-place : (y : ℕ) → Is (w .seen y) → (p : ℕ) × ((p < size (reaching d forest place i w)) × (edgeAt (reaching d forest place i w) p ≡ y))
@@ -175,15 +202,17 @@ module _ (d : Design) (forest : ℕ → ℕ) (e place i : ℕ) (w : Waiting) (r 
 
   reach-seen-at : (y : ℕ) → Is (reaching d forest place i w .seen y)
       → (p : ℕ) × ((p < size (reaching d forest place i w)) × (edgeAt (reaching d forest place i w) p ≡ y))
-  unfolding reach
   reach-seen-at y s =
-      ⊎-elim (λ o. old-place y o) (λ path. cases (w .seen y) (λ o. old-place y o) (λ n. new-place y path n)) (or-elim _ _ s)
+      ⊎-elim (λ o. old-place y o) (λ path. cases (w .seen y) (λ o. old-place y o) (λ n. new-place y path n))
+      (seen-iff d forest (edgeAt w place) i y w place .0 s)
 
   reach-at-seen : (p : ℕ) → p < size (reaching d forest place i w) → Is (reaching d forest place i w .seen (edgeAt (reaching d forest place i w) p))
-  unfolding reach
   reach-at-seen p h =
-      edge-cases {C = λ y. Is (reaching d forest place i w .seen y)} p h (λ q l. or-l _ _ (r .at-seen q l))
-      (λ y n. or-r (w .seen y) _ (subst (λ (z : ℕ). Is (onPath d (inForest forest z) (edgeAt w place) y)) (n .stands) (n .arc .on-path)))
+      edge-cases {C = λ y. Is (reaching d forest place i w .seen y)} p h
+      (λ q l. seen-iff d forest (edgeAt w place) i (edgeAt w q) w place .1 (inl (r .at-seen q l)))
+      (λ y n.
+      seen-iff d forest (edgeAt w place) i y w place .1
+      (inr (subst (λ (z : ℕ). Is (onPath d (inForest forest z) (edgeAt w place) y)) (n .stands) (n .arc .on-path))))
 
   reach-earlier : (p : ℕ) → 1 ≤ p → Place p → fromAt (reaching d forest place i w) p < p
   reach-earlier p l (old h _ f) = omega (arith, f, r .earlier p l h)

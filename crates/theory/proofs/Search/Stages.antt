@@ -12,7 +12,7 @@ use native.Mathlib.Omega.{arith}
 use mathlib.Core.List.{[], _∷_}
 use lib.ListN.{length, getD}
 use Rattle.rule.specs.Sets.{Is, _=?_, _<?_, Set, In, _without_}
-use Rattle.rule.specs.Legal.{Design}
+use Rattle.rule.specs.Legal.{Design, k}
 use Rattle.rule.specs.Forests.{limit, inForest}
 use Rattle.rule.proofs.Tests.{cases, is-false, eq-of, eq-is, lt-of, not-lt, by-eq, in-split, without-make}
 use Rattle.theory.specs.Joined.{spans, onPath}
@@ -21,7 +21,7 @@ use Rattle.theory.specs.Search.{Waiting, edgeAt, fromAt, Result, andThen
 use Rattle.theory.specs.Search.Result.{found, going}
 use Rattle.theory.proofs.Joined.Laws.{spans-edge}
 use Rattle.theory.proofs.Exchange.Step.{path-needs}
-use Rattle.theory.proofs.Legal.Kept.{forest-make}
+use Rattle.theory.proofs.Legal.Kept.{forest-make, limit-red, limit-black}
 use Rattle.theory.proofs.Search.Reached.{size, Reached, Grows, begin-reached, reaching, reach-grows, reach-reached, reach-all, reach-from}
 
 module _ (d : Design) (forest : ℕ → ℕ) (e : ℕ) where
@@ -186,16 +186,25 @@ module _ (d : Design) (forest : ℕ → ℕ) (e : ℕ) where
         now = λ h i r. absurd (omega arith);
       }
 
+  -- a turn tries the forests 1 to a of a red edge and 1 to k of a black one
+  turn-tries : (q x j : ℕ) (w : Waiting) → (Is (d .red x) → j ≡ d .a) → (¬ (Is (d .red x)) → j ≡ k d) → Trying q x 0 w
+      → Turned (suc q) (tryForests d forest q x j w)
+  turn-tries q x j w red black t =
+      let all : j ≡ limit d x = cases (d .red x) (λ r. red r ∙ sym (limit-red d x r)) (λ n. black n ∙ sym (limit-black d x n)) in
+      let r = tryForests d forest q x j w in
+      turn-over q x r (subst (λ (z : ℕ). Tried q x z r) all (tried-all q x j w (omega arith) t))
+
   turned-one : (q : ℕ) (w : Waiting) → Stage q 0 w → Turned (suc q) (turn d forest q w)
-  unfolding turn
+  unfolding turn limit
   turned-one q w s =
       cases (q <? length (w .queue))
       (λ t.
-      subst (λ (b : Bool). Turned (suc q) (pick b (tryForests d forest q (edgeAt w q) (limit d (edgeAt w q)) w) (going w))) (sym t)
-      (turn-over q (edgeAt w q) (tryForests d forest q (edgeAt w q) (limit d (edgeAt w q)) w) (tried-all q (edgeAt w q) (limit d (edgeAt w q)) w (omega arith) (record { stage = s; here = lt-of _ _ t; is-x = refl }))))
+      rw t
+      (turn-tries q (edgeAt w q) _ w (λ r. omega (arith, limit-red d (edgeAt w q) r)) (λ n. omega (arith, limit-black d (edgeAt w q) n))
+      (record { stage = s; here = lt-of _ _ t; is-x = refl })))
       (λ n.
       let over : size w ≤ q = not-lt _ _ n in
-      subst (λ (b : Bool). Turned (suc q) (pick b (tryForests d forest q (edgeAt w q) (limit d (edgeAt w q)) w) (going w))) (sym (is-false _ n))
+      rw (is-false _ n)
       (record {
         reached = s .reached;
         so-far = λ p h. omega (arith, s .so-far p h);
