@@ -1,0 +1,5 @@
+pub mod Members
+pub mod Bodies
+pub mod Inside
+pub mod Deals
+pub mod Same

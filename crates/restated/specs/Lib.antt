@@ -1,0 +1,2 @@
+pub mod Bars
+pub mod BookBars
