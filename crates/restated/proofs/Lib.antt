@@ -6,3 +6,5 @@ pub mod Same
 pub mod Kept
 pub mod Circuits
 pub mod Exact
+pub mod Groups
+pub mod Theorems
