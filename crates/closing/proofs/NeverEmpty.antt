@@ -5,9 +5,9 @@
 -- Assumes nothing.
 use mathlib.Core.Path.{_≡_, refl, sym, ap, _∙_, subst}
 use mathlib.Core.Logic.{_≢_}
-use mathlib.Core.List.{List, _++_}
+use mathlib.Core.List.{List}
 use Prim.Native.Nat.{ℕ, _≤_}
-use lib.ListN.{length, drop}
+use lib.ListN.{length}
 use Rattle.rule.specs.declared.Book.{Book}
 use Rattle.rule.specs.declared.Answer.the-variants.{Implied}
 use Rattle.rule.specs.Sets.{In, _without_, numbers, at}
@@ -20,7 +20,7 @@ use Rattle.theory.specs.Search.Result.{found, going}
 use Rattle.theory.proofs.Legal.Sound.{sound-head}
 use Rattle.theory.proofs.Theorems.{circuit-not-empty}
 use Rattle.placing.specs.Seek.{forestsFor}
-use Rattle.placing.proofs.Says.{offered-ends, offered-arranged, offered-last, offered-unplaced, found-says, stuck-says}
+use Rattle.placing.proofs.Says.{offered-ends, offered-arranged, offered-last, offered-unplaced, found-says, stuck-is-circuit}
 
 module _ (B : Book) (u v colour : ℕ) (sound : Sound B) (hu : In (B .n) u) (hv : In (B .n) v) (different : u ≢ v) where
   stuck-some : (w : Waiting) → search (offered B u v colour) (forestsFor B) (next B) ≡ going w
@@ -37,10 +37,9 @@ module _ (B : Book) (u v colour : ℕ) (sound : Sound B) (hu : In (B .n) u) (hv 
       by-search : (r : Result) → search (offered B u v colour) (forestsFor B) (next B) ≡ r → 1 ≤ n
       by-search (found p i w) q = absurd (says .implies (found-says B u v colour sound hu hv p i w q .keeps))
       by-search (going w) q =
-          let answer = numbers (w .seen without next B) (next B) in
-          let again = stuck-says B u v colour sound hu hv w q list (answer ++ drop (length answer) list) refl in
-          let same = circuit-determined (offered B u v colour) (keptOf B) (next B) (again .is-circuit) (says .is-circuit) in
-          subst (λ (z : ℕ). 1 ≤ z) (again .number ∙ ap length same ∙ sym (says .number)) (stuck-some w q)
+          let again = stuck-is-circuit B u v colour sound hu hv w q in
+          let same = circuit-determined (offered B u v colour) (keptOf B) (next B) again (says .is-circuit) in
+          subst (λ (z : ℕ). 1 ≤ z) (ap length same ∙ sym (says .number)) (stuck-some w q)
 
 module _ (B : Book) (u v colour : ℕ) (list listed : List ℕ) (n : ℕ) where
   pub circuit-never-empty : (after : Book) → Offer B after u v colour list listed (Implied n) → 1 ≤ n

@@ -13,7 +13,7 @@ use Rattle.rule.specs.declared.Book.{Book}
 use Rattle.rule.specs.Sets.{isnt, _=?_, Set, In, _without_, numbers}
 use Rattle.rule.specs.Legal.{Design, Ends, Keeps, Implies, Circuit}
 use Rattle.rule.specs.Forests.{Arranged, moved}
-use Rattle.rule.specs.Books.{designOf, forestOf, offered, plus, next, Sound}
+use Rattle.rule.specs.Books.{designOf, forestOf, keptOf, offered, plus, next, Sound}
 use Rattle.rule.specs.Calls.{KeepsIt, ImpliesIt, Filled}
 use Rattle.rule.proofs.Counting.{count-eq}
 use Rattle.theory.specs.Exchange.{Each, Distinct, end, Free, shifted}
@@ -100,16 +100,23 @@ module _ (B : Book) (u v colour : ℕ) (sound : Sound B) (hu : In (B .n) u) (hv 
   -- ---- it did not
 
   module _ (w : Waiting) (q : search (offered B u v colour) (forestsFor B) (next B) ≡ going w) where
+    -- what was reached is its circuit
+    pub stuck-is-circuit : Circuit (offered B u v colour) (keptOf B) (next B) (numbers (w .seen without next B) (next B))
+    unfolding plus designOf
+    stuck-is-circuit =
+        subst (λ (s : Set). Circuit d s (next B) (numbers (w .seen without next B) (next B))) (kept-longer (designOf B) u v colour (forestOf B))
+        (circuit-list d offered-ends phi offered-arranged (next B) offered-last offered-unplaced w q)
+
     pub stuck-says : (list listed : List ℕ) → Filled (numbers (w .seen without next B) (next B)) list listed → length listed ≡ length list
         → ImpliesIt B u v colour list listed (length (numbers (w .seen without next B) (next B)))
     unfolding plus designOf
     stuck-says list listed fills long =
         record {
-          implies = subst (λ (s : Set). Implies d s (next B)) (kept-longer (designOf B) u v colour (forestOf B)) (stuck-implied d offered-ends phi offered-arranged (next B) offered-last offered-unplaced w q);
+          implies =
+              subst (λ (s : Set). Implies d s (next B)) (kept-longer (designOf B) u v colour (forestOf B))
+              (stuck-implied d offered-ends phi offered-arranged (next B) offered-last offered-unplaced w q);
           circuit = numbers (w .seen without next B) (next B);
-          is-circuit =
-              subst (λ (s : Set). Circuit d s (next B) (numbers (w .seen without next B) (next B))) (kept-longer (designOf B) u v colour (forestOf B))
-              (circuit-list d offered-ends phi offered-arranged (next B) offered-last offered-unplaced w q);
+          is-circuit = stuck-is-circuit;
           number = refl;
           fills = fills;
           as-long = long;
