@@ -1,5 +1,6 @@
 pub mod Transport
 pub mod Plus
+pub mod Reorder
 pub mod Grown
 pub mod Order
 pub mod Undo

@@ -4,21 +4,28 @@
 -- By all kept edges the search for e is stuck, with a closed set c that covers e, and y is in the circuit exactly when it is in c. All of
 -- c comes before e: without a later y the set would hold the edges kept before e and e itself, which are not legal. And a y before e
 -- that is not in c leaves c and e together, which no legal set holds.
+--
+-- And a design with one edge more has the circuits that it had: the legal sets of old edges are the same.
 -- Assumes nothing.
-use mathlib.Core.Path.{_≡_, refl, sym, ap, _∙_, subst}
-use mathlib.Core.Logic.{_⊎_, inl, inr, ⊎-elim, _↔_, _≢_}
-use Prim.Native.Nat.{ℕ, suc, _≤_, _<_}
+use mathlib.Core.Path.{_≡_, refl, sym, _∙_, subst}
+use mathlib.Core.Logic.{⊎-elim, _↔_, Iff·trans}
+use mathlib.Core.List.{List}
+use Prim.Native.Nat.{ℕ, suc, _<_}
 use native.Mathlib.Omega.{arith}
 use Rattle.rule.specs.Sets.{Is, Set, In, _with_, _without_, below}
-use Rattle.rule.specs.Legal.{Design, Ends, Legal, Keeps, Implies, InCircuit, Grown}
+use Rattle.rule.specs.Legal.{Design, Ends, Legal, InCircuit, Circuit, Grown}
 use Rattle.rule.specs.Forests.{keptIn}
-use Rattle.rule.proofs.Tests.{cases, by-le, by-eq, with-elim, without-old, without-ne, without-make, below-in, below-lt, below-make}
-use Rattle.rule.proofs.Counting.{Within, with-mono}
+use Rattle.rule.specs.Books.{plus}
+use Rattle.rule.proofs.Tests.{cases, by-le, in-split, put-other, with-elim, without-old, without-ne, without-make, below-in, below-lt, below-make}
+use Rattle.rule.proofs.Counting.{Within, with-mono, Agree, numbers-eq}
 use Rattle.rule.proofs.Legality.{legal-sub}
 use Rattle.theory.specs.Search.{Waiting, Result, search}
 use Rattle.theory.specs.Search.Result.{found, going}
 use Rattle.theory.proofs.Search.Outcome.{found-kept, stuck-none, circuit-exact, seen-kept}
 use Rattle.theory.proofs.Matroid.Arrange.{Arrangement, unplaced, legal-arranged}
+use Rattle.theory.proofs.Numbers.Listing.{without-last}
+use Rattle.theory.proofs.Joined.Acyclic.{without-mono}
+use Rattle.theory.proofs.Laws.Plus.{legal-shorter, legal-longer}
 use Rattle.theory.proofs.Laws.Grown.{grown-legal, grown-full}
 
 module _ (d : Design) (ends : Ends d) (k : Set) (g : Grown d k) (e : ℕ) (h : In (d .m) e) (not : ¬ (Is (k e))) where
@@ -94,3 +101,62 @@ module _ (d : Design) (ends : Ends d) (k : Set) (g : Grown d k) (e : ℕ) (h : I
         (ky, later-at (legal-arranged d ends k (grown-legal d ends k g)) y hy ky (below-lt k e y (c .0)) (c .1))),
     (λ c. (below-make k e y (c .0) (comes-before y (c .0) (c .1)), earlier y (c .1))),
   )
+
+-- ---- the same kept edges
+
+-- y is in the circuit by the one set, then by one that agrees with it
+circuit-to : (d : Design) (s t : Set) (e : ℕ) → Agree (d .m) s t → (y : ℕ) → In (d .m) y → InCircuit d s e y → InCircuit d t e y
+circuit-to d s t e same y hy c = (
+  sym (same y hy) ∙ c .0,
+  legal-sub d (t without y with e) (s without y with e)
+      (with-mono (d .m) (t without y) (s without y) e (without-mono d t s y (λ f hf i. same f hf ∙ i))) (c .1),
+)
+
+pub circuit-agree : (d : Design) (s t : Set) (e : ℕ) (list : List ℕ) → Agree (d .m) s t → Circuit d s e list → Circuit d t e list
+circuit-agree d s t e list same c =
+    record {
+      chosen = c .chosen;
+      exactly =
+          λ y hy.
+          Iff·trans (c .exactly y hy) (circuit-to d s t e same y hy, circuit-to d t s e (λ f hf. sym (same f hf)) y hy);
+      in-order = c .in-order;
+    }
+
+-- ---- one edge more
+
+module _ (d : Design) (u v colour : ℕ) (s : Set) (e : ℕ) (h : In (d .m) e) (old : ¬ (Is (s (suc (d .m))))) where
+  -- a set of old edges
+  old-edges : (y i : ℕ) → In (suc (d .m)) i → Is ((s without y with e) i) → In (d .m) i
+  old-edges y i hi t =
+      in-split (d .m) i hi (λ r. r)
+      (λ q.
+      ⊎-elim (λ l. absurd (omega (arith, h .high)))
+      (λ k. absurd (old (subst (λ (z : ℕ). Is (s z)) q (without-old s y i k)))) (with-elim (s without y) e i t))
+
+  circuit-both : (y : ℕ) → InCircuit d s e y ↔ InCircuit (plus d u v colour) s e y
+  circuit-both y = (
+    (λ c. (c .0, legal-longer d u v colour (s without y with e) (s without y with e) (λ i hi t. (old-edges y i hi t, t)) (c .1))),
+    (λ c. (c .0, legal-shorter d u v colour (s without y with e) (s without y with e) (λ i _ t. t) (c .1))),
+  )
+
+  pub circuit-longer : (list : List ℕ) → Circuit d s e list → Circuit (plus d u v colour) s e list
+  unfolding plus
+  circuit-longer list c =
+      let new = suc (d .m) in
+      let chosen : Set = c .chosen without new in
+      let same : Agree (d .m) (c .chosen) chosen = λ i r. sym (put-other (c .chosen) new _ i (omega arith)) in
+      record {
+        chosen = chosen;
+        exactly =
+            λ i hi.
+            in-split (d .m) i hi
+            (λ r.
+            Iff·trans ((λ t. same i r ∙ t), (λ t. sym (same i r) ∙ t)) (Iff·trans (c .exactly i r) (circuit-both i)))
+            (λ q.
+            subst (λ (z : ℕ). Is (chosen z) ↔ InCircuit (plus d u v colour) s e z) (sym q)
+            ((λ t. absurd (without-ne (c .chosen) new new t refl)), (λ k. absurd (old (k .0)))));
+        in-order =
+            c .in-order
+            ∙ numbers-eq (c .chosen) chosen (d .m) same
+            ∙ sym (without-last chosen (d .m) (λ t. without-ne (c .chosen) new new t refl));
+      }

@@ -2,39 +2,27 @@
 --
 -- The kept edges of the one, renumbered, are a legal set of the other to which nothing can be added; all such sets are equally
 -- large. An edge more is kept exactly when the number kept grows, and that number is the same in both orders.
+--
+-- Not here: laws of the orders themselves, in Reorder.antt.
 -- Assumes nothing.
 use mathlib.Core.Path.{_≡_, refl, sym, ap, _∙_, subst}
-use mathlib.Core.Logic.{_⊎_, inl, inr, ⊎-elim, _↔_, _≢_}
+use mathlib.Core.Logic.{⊎-elim, _↔_}
 use mathlib.Core.Bool.{Bool, true, false}
-use Prim.Native.Nat.{ℕ, suc, _+_, _*_, _-_, _≤_, _<_}
+use Prim.Native.Nat.{ℕ, suc, _+_, _*_, _-_}
 use native.Mathlib.Nat.{le-antisymm}
 use native.Mathlib.Omega.{arith}
-use Rattle.rule.specs.Sets.{Is, Set, In, put, _with_, one-if, count}
+use Rattle.rule.specs.Sets.{Is, Set, In, _with_, one-if, count}
 use Rattle.rule.specs.Legal.{Design, Ends, Legal, Keeps, Grown}
 use Rattle.rule.specs.Figures.{freedom}
 use Rattle.rule.specs.Books.{plus}
-use Rattle.rule.proofs.Tests.{never, in-one, in-split, put-same, put-other, with-self, with-old, with-elim}
+use Rattle.rule.proofs.Tests.{never, with-self, with-old, with-elim}
 use Rattle.rule.proofs.Counting.{count-eq}
 use Rattle.theory.specs.Order.{Renumbered, ImpliedBy}
 use Rattle.theory.proofs.Matroid.Formula.{Maximal, maximal-same-size}
-use Rattle.theory.proofs.Laws.Transport.{Into, count-into, Carries, legal-carried}
-use Rattle.theory.proofs.Laws.Plus.{plus-one, plus-other, plus-red, new-one, new-other, new-red, plus-ends}
+use Rattle.theory.proofs.Laws.Transport.{count-into, Carries, legal-carried}
+use Rattle.theory.proofs.Laws.Plus.{plus-ends}
+use Rattle.theory.proofs.Laws.Reorder.{renumbered-back, renumbered-plus}
 use Rattle.theory.proofs.Laws.Grown.{grown-legal, grown-full, grown-maximal, grown-exists, old-kept, new-kept}
-
-pub renumbered-back : (d e : Design) (to fro : ℕ → ℕ) → Renumbered d e to fro → Renumbered e d fro to
-renumbered-back d e to fro r =
-    record {
-      a = sym (r .a);
-      b = sym (r .b);
-      n = sym (r .n);
-      to-range = r .fro-range;
-      fro-range = r .to-range;
-      there = r .back;
-      back = r .there;
-      one = λ j h. sym (r .one (fro j) (r .fro-range j h)) ∙ ap (e .one) (r .back j h);
-      other = λ j h. sym (r .other (fro j) (r .fro-range j h)) ∙ ap (e .other) (r .back j h);
-      red = λ j h. sym (r .red (fro j) (r .fro-range j h)) ∙ ap (e .red) (r .back j h);
-    }
 
 module _ (d e : Design) (to fro : ℕ → ℕ) (r : Renumbered d e to fro) where
   -- a set of edges of d goes into one of e
@@ -104,51 +92,6 @@ order-freedom d e to fro r ends-d ends-e k h gk gh =
     ap₄ p q s t = λ i. (p i + q i) * (s i - 1) - t i
 
 -- ---- one edge more in both orders
-
--- a map with one number more sent past the end, and what holds of old numbers and of the new one
-next-cases : (f : ℕ → ℕ) (m n : ℕ) (P : ℕ → ℕ → Type 0) → ((i : ℕ) → In m i → P i (f i)) → P (suc m) (suc n)
-    → (i : ℕ) → In (suc m) i → P i (put f (suc m) (suc n) i)
-next-cases f m n P old new i h =
-    in-split m i h (λ k. subst (P i) (sym (put-other f (suc m) (suc n) i (omega arith))) (old i k))
-    (λ q. subst (λ (z : ℕ). P z (put f (suc m) (suc n) z)) (sym q) (subst (P (suc m)) (sym (put-same f (suc m) (suc n))) new))
-
-module _ (d e : Design) (to fro : ℕ → ℕ) (r : Renumbered d e to fro) (u v colour : ℕ) where
-  abbrev to-last : ℕ → ℕ
-  to-last = put to (suc (d .m)) (suc (e .m))
-
-  abbrev fro-last : ℕ → ℕ
-  fro-last = put fro (suc (e .m)) (suc (d .m))
-
-  renumbered-plus : Renumbered (plus d u v colour) (plus e u v colour) to-last fro-last
-  unfolding plus
-  renumbered-plus =
-      record {
-        a = r .a;
-        b = r .b;
-        n = r .n;
-        to-range = next-cases to (d .m) (e .m) (λ i j. In (suc (e .m)) j) (λ i h. in-one (e .m) (to i) (r .to-range i h)) (omega arith);
-        fro-range = next-cases fro (e .m) (d .m) (λ j i. In (suc (d .m)) i) (λ j h. in-one (d .m) (fro j) (r .fro-range j h)) (omega arith);
-        there =
-            next-cases to (d .m) (e .m) (λ i j. fro-last j ≡ i)
-            (λ i h. let k = r .to-range i h in put-other fro (suc (e .m)) (suc (d .m)) (to i) (omega arith) ∙ r .there i h)
-            (put-same fro (suc (e .m)) (suc (d .m)));
-        back =
-            next-cases fro (e .m) (d .m) (λ j i. to-last i ≡ j)
-            (λ j h. let k = r .fro-range j h in put-other to (suc (d .m)) (suc (e .m)) (fro j) (omega arith) ∙ r .back j h)
-            (put-same to (suc (d .m)) (suc (e .m)));
-        one =
-            next-cases to (d .m) (e .m) (λ i j. plus e u v colour .one j ≡ plus d u v colour .one i)
-            (λ i h. let k = r .to-range i h in plus-one e u v colour (to i) (omega arith) ∙ r .one i h ∙ sym (plus-one d u v colour i (omega arith)))
-            (new-one e u v colour ∙ sym (new-one d u v colour));
-        other =
-            next-cases to (d .m) (e .m) (λ i j. plus e u v colour .other j ≡ plus d u v colour .other i)
-            (λ i h. let k = r .to-range i h in plus-other e u v colour (to i) (omega arith) ∙ r .other i h ∙ sym (plus-other d u v colour i (omega arith)))
-            (new-other e u v colour ∙ sym (new-other d u v colour));
-        red =
-            next-cases to (d .m) (e .m) (λ i j. plus e u v colour .red j ≡ plus d u v colour .red i)
-            (λ i h. let k = r .to-range i h in plus-red e u v colour (to i) (omega arith) ∙ r .red i h ∙ sym (plus-red d u v colour i (omega arith)))
-            (new-red e u v colour ∙ sym (new-red d u v colour));
-      }
 
 -- the edge more is counted exactly when it is kept
 count-plus : (d : Design) (u v colour : ℕ) (k l : Set) → Grown d k → Grown (plus d u v colour) l
