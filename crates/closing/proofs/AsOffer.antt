@@ -2,6 +2,8 @@
 --
 -- The checks of an offer are those of a question and one more, 6. So what an offer answers, but for 6, a question may answer too, and any
 -- two answers of a question agree (crate rule). On a full book an offer fails at 6 where the question passes.
+--
+-- Not here: the way back, from a question to some offer, SomeOffer.antt.
 -- Assumes nothing.
 use mathlib.Core.Path.{_≡_, ap}
 use mathlib.Core.Logic.{_⊎_, inl, inr, ⊎-elim, _≢_}
@@ -18,7 +20,7 @@ use Rattle.rule.specs.Reasons.{numberOf, placeOf, Check, plain, Pass, Fail, que
 use Rattle.rule.specs.Calls.{Offer, Question}
 use Rattle.rule.proofs.Determined.{reason-determined, pass-not-fail}
 use Rattle.rule.proofs.Outcomes.{AnswersAgree, question-determined}
-use Rattle.step.proofs.Undo.{Taken}
+use Rattle.step.specs.Runs.{Taken}
 
 -- ---- one check more
 
@@ -27,21 +29,33 @@ module _ (c : Check) where
   pass-shorter [] p = tt
   pass-shorter (first ∷ rest) p = (p .0, pass-shorter rest (p .1))
 
-  fail-shorter : (checks : List Check) (reason : Reason) → Fail (checks ++ c ∷ []) reason
-      → Fail checks reason ⊎ ((numberOf reason ≡ c .number) × c .with-it (placeOf reason))
-  fail-shorter [] reason (inl f) = inr (f .1, f .2)
+  pub pass-longer : (checks : List Check) → Pass checks → c .must → Pass (checks ++ c ∷ [])
+  pass-longer [] p last = (last, tt)
+  pass-longer (first ∷ rest) p last = (p .0, pass-longer rest (p .1) last)
+
+  pub fail-shorter : (checks : List Check) (reason : Reason) → Fail (checks ++ c ∷ []) reason
+      → Fail checks reason ⊎ (¬ (c .must) × (numberOf reason ≡ c .number) × c .with-it (placeOf reason))
+  fail-shorter [] reason (inl f) = inr f
   fail-shorter [] reason (inr f) = absurd (f .1)
   fail-shorter (first ∷ rest) reason (inl f) = inl (inl f)
   fail-shorter (first ∷ rest) reason (inr f) = ⊎-elim (λ g. inl (inr (f .0, g))) (λ g. inr g) (fail-shorter rest reason (f .1))
 
+  pub fail-longer : (checks : List Check) (reason : Reason) → Fail checks reason → Fail (checks ++ c ∷ []) reason
+  fail-longer [] reason f = absurd f
+  fail-longer (first ∷ rest) reason (inl f) = inl f
+  fail-longer (first ∷ rest) reason (inr f) = inr (f .0, fail-longer rest reason (f .1))
+
 module _ (B : Book) (u v colour : ℕ) (list : List ℕ) where
-  abbrev six : Check
+  abbrev pub six : Check
   six = plain 6 (B .count < capacity)
+
+  pub passes-question : Pass (offerChecks B u v colour list) → Pass (questionChecks B u v colour list)
+  passes-question = pass-shorter six (questionChecks B u v colour list)
 
   -- an offer is refused for a reason of the question, or for 6
   refused-for : (reason : Reason) → Fail (offerChecks B u v colour list) reason → Fail (questionChecks B u v colour list) reason ⊎ (reason ≡ Full)
   refused-for reason f =
-      ⊎-elim (λ g. inl g) (λ g. inr (reason-determined reason Full (g .0) (g .1))) (fail-shorter six (questionChecks B u v colour list) reason f)
+      ⊎-elim (λ g. inl g) (λ g. inr (reason-determined reason Full (g .1) (g .2))) (fail-shorter six (questionChecks B u v colour list) reason f)
 
   -- ---- the same answers
 
@@ -50,13 +64,13 @@ module _ (B : Book) (u v colour : ℕ) (list : List ℕ) where
       → answer ≢ Refused Full → Question B u v colour list listed answer
   offer-as-question after listed (Kept c) o not-six =
       record {
-        checked = pass-shorter six (questionChecks B u v colour list) (o .checked);
+        checked = passes-question (o .checked);
         forest = forestOf after;
         says = o .says;
         unwritten = o .unwritten;
       }
   offer-as-question after listed (Implied c) o not-six =
-      record { checked = pass-shorter six (questionChecks B u v colour list) (o .checked); says = o .says }
+      record { checked = passes-question (o .checked); says = o .says }
   offer-as-question after listed (Refused reason) o not-six =
       (⊎-elim (λ f. f) (λ q. absurd (not-six (ap Refused q))) (refused-for reason (o .0)), o .2)
 

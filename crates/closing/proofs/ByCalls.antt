@@ -1,80 +1,141 @@
--- The four laws of undo once more, by calls alone: what offers and questions to grown books answer.
+-- The laws of undo as a host sees them: what questions to books answer, of books that came from calls alone, with a list of 378 places
+-- lent to each question. No later call is supposed to be answered; that it is follows.
 --
--- An answer that is not a refusal says whether the book implies the edge; so each law is that of crate step, with its claims on books put
--- as answers.
+--  1 the same edges in another order: the questions answer alike, a refusal with the same reason, and the freedom is the same
+--  2 an offer, whatever it was answered, takes nothing out of what is implied
+--  3 an offer that was answered implied puts nothing in
+--  4 x is kept, and implied once y is offered in its place: then y is implied once x is offered
+--
+-- An answer that is not a refusal says whether the book implies the edge (Answered.antt), and of books those laws hold (crate step). A
+-- refusal is for the edge and the number of bodies, which an offer and another order leave as they are.
+--
+-- Not here: what books that came from the same edges have to do with each other, Orders.antt.
 -- Assumes nothing.
-use mathlib.Core.Path.{_≡_, sym, _∙_}
-use mathlib.Core.Logic.{_↔_, Iff·trans, Iff·symm}
+use mathlib.Core.Path.{_≡_, sym, ap, _∙_, subst}
 use mathlib.Core.List.{List}
-use Prim.Native.Nat.{ℕ}
+use Prim.Native.Nat.{ℕ, _≤_}
+use lib.ListN.{length}
 use Rattle.rule.specs.declared.Book.{Book}
+use Rattle.rule.specs.declared.Figure.{Figure}
 use Rattle.rule.specs.declared.Answer.{Answer}
 use Rattle.rule.specs.declared.Answer.the-variants.{Kept, Implied, Refused}
-use Rattle.rule.specs.declared.Figure.{Figure}
-use Rattle.rule.specs.Sets.{In}
-use Rattle.rule.specs.Books.{designOf}
+use Rattle.rule.specs.Books.{designOf, Sound}
+use Rattle.rule.specs.Reasons.{circuitRoom, Pass, offerChecks}
 use Rattle.rule.specs.Calls.{Offer, Question, Freedom}
-use Rattle.theory.specs.Order.{Renumbered}
-use Rattle.step.specs.Runs.{Run, BookImplies}
-use Rattle.step.proofs.Undo.{Taken, question-implied, question-kept, undo-order-freedom, undo-order-implied, undo-more-implied, undo-implied-adds-none, undo-exchange}
+use Rattle.text.specs.Sheets.{Edge}
+use Rattle.step.specs.Runs.{Taken, Run, BookImplies}
+use Rattle.step.proofs.Runs.{run-grew, offer-grew}
+use Rattle.step.proofs.Undo.{question-implied, undo-order-freedom, undo-order-implied, undo-more-implied, undo-implied-adds-none, undo-exchange}
+use Rattle.closing.specs.Undo.{IsImplied, Alike, Came, Reordered}
+use Rattle.closing.proofs.AsOffer.{passes-question}
+use Rattle.closing.proofs.Orders.{InSomeOrder, came-run, came-reordered}
+use Rattle.closing.proofs.Answered.{edgeChecks, edge-single, passes-edge, Tells, tells-implied, tells-alike}
+use Rattle.closing.proofs.Answered.{question-tells, freedom-tells, offer-implied-implies, offer-kept-not-implies}
 
--- ---- what an answer says of the book
+-- ---- 1. Another order
 
--- the answer is implied
-abbrev pub IsImplied : Answer → Type 0
-IsImplied (Kept n) = ⊥
-IsImplied (Implied n) = Unit
-IsImplied (Refused r) = ⊥
+module _ {a b n : ℕ} {edges others : List Edge} {B C : Book} (came-B : Came a b n edges B) (came-C : Came a b n others C)
+    (order : Reordered edges others) where
+  order-of : InSomeOrder (designOf B) (designOf C)
+  order-of = came-reordered came-B came-C order
 
-module _ (B : Book) (u v colour : ℕ) (list listed : List ℕ) where
-  pub offer-implied-implies : (after : Book) (n : ℕ) → Offer B after u v colour list listed (Implied n) → BookImplies B u v colour
+  sound-B : Sound B
+  sound-B = run-grew (came-run came-B) .sound
+
+  sound-C : Sound C
+  sound-C = run-grew (came-run came-C) .sound
+
+  same-bodies : B .n ≡ C .n
   unfolding designOf
-  offer-implied-implies after n o = o .says .implies
+  same-bodies = order-of .renumbered .n
 
-  pub offer-kept-not-implies : (after : Book) (n : ℕ) → Offer B after u v colour list listed (Kept n) → ¬ (BookImplies B u v colour)
-  unfolding designOf
-  offer-kept-not-implies after n o implied = implied (o .says .keeps)
+  -- the questions answer alike
+  pub calls-order-alike : (u v colour : ℕ) (list listed lent used : List ℕ) (said told : Answer) → circuitRoom ≤ length list
+      → circuitRoom ≤ length lent → Question B u v colour list listed said → Question C u v colour lent used told → Alike said told
+  calls-order-alike u v colour list listed lent used said told long-B long-C p q =
+      let r = order-of in
+      tells-alike (edgeChecks (B .n) u v colour) (edge-single (B .n) u v colour) (BookImplies B u v colour) (BookImplies C u v colour)
+      (λ fits.
+      undo-order-implied B C (came-run came-B) (came-run came-C) (r .to) (r .fro) (r .renumbered) u v colour (fits .1 .0 .0) (fits .1 .0 .1))
+      said told (question-tells B u v colour list sound-B long-B listed said p)
+      (subst (λ (z : ℕ). Tells (edgeChecks z u v colour) (BookImplies C u v colour) told) (sym same-bodies)
+      (question-tells C u v colour lent sound-C long-C used told q))
 
-  pub question-tells : (said : Answer) → Taken said → Question B u v colour list listed said → (IsImplied said ↔ BookImplies B u v colour)
-  question-tells (Kept n) taken q = ((λ x. absurd x), (λ h. question-kept B u v colour list listed n q h))
-  question-tells (Implied n) taken q = ((λ x. question-implied B u v colour list listed n q), (λ h. tt))
-  question-tells (Refused r) taken q = absurd taken
+  -- the freedom is the same
+  pub calls-order-freedom : (x y : Figure) → Freedom B x → Freedom C y → x ≡ y
+  calls-order-freedom x y p q =
+      let r = order-of in
+      freedom-tells B sound-B x p
+      ∙ ap Figure.Number (undo-order-freedom B C (came-run came-B) (came-run came-C) (r .to) (r .fro) (r .renumbered))
+      ∙ sym (freedom-tells C sound-C y q)
 
--- ---- the first law: another order
+-- ---- an offer
 
-module _ (B C : Book) (run-B : Run B) (run-C : Run C) (to fro : ℕ → ℕ) (same : Renumbered (designOf B) (designOf C) to fro) where
-  pub calls-order-freedom : (f g : ℕ) → Freedom B (Figure.Number f) → Freedom C (Figure.Number g) → f ≡ g
-  calls-order-freedom f g p q = p .1 ∙ undo-order-freedom B C run-B run-C to fro same ∙ sym (q .1)
+module _ (B after : Book) (u v colour : ℕ) (list listed : List ℕ) where
+  -- the number of bodies stays, so an edge that fits one of the books fits the other
+  same-n : (answer : Answer) → Offer B after u v colour list listed answer → B .n ≡ after .n
+  same-n (Kept c) o = sym (o .adds .n)
+  same-n (Implied c) o = sym (o .adds .n)
+  same-n (Refused r) o = sym (ap (λ (z : Book). z .n) (o .1))
 
-  pub calls-order-implied : (u v colour : ℕ) (list listed lent used : List ℕ) (said told : Answer) → In (B .n) u → In (B .n) v → Taken said → Taken told
-      → Question B u v colour list listed said → Question C u v colour lent used told → (IsImplied said ↔ IsImplied told)
-  calls-order-implied u v colour list listed lent used said told hu hv taken-B taken-C b c =
-      Iff·trans (question-tells B u v colour list listed said taken-B b)
-      (Iff·trans (undo-order-implied B C run-B run-C to fro same u v colour hu hv) (Iff·symm (question-tells C u v colour lent used told taken-C c)))
+  -- what is implied stays so
+  still-implied : (answer : Answer) → Run B → Offer B after u v colour list listed answer → (x y c : ℕ) → BookImplies B x y c → BookImplies after x y c
+  still-implied (Kept n) run o x y c i = undo-more-implied B after run x y c u v colour list listed (Kept n) tt o i
+  still-implied (Implied n) run o x y c i = undo-more-implied B after run x y c u v colour list listed (Implied n) tt o i
+  still-implied (Refused r) run o x y c i = subst (λ (z : Book). BookImplies z x y c) (sym (o .1)) i
 
--- ---- the other laws: y is offered to a book, and x asked of it before and after
+-- ---- the other laws: the edge x is between u and v, the edge y between u′ and v′, and y is offered to a book
 
 module _ (B By : Book) (run : Run B) (u v colour u′ v′ colour′ : ℕ) (list listed : List ℕ) where
-  module _ (answer : Answer) (taken : Taken answer) (offer-y : Offer B By u′ v′ colour′ list listed answer) where
-    -- an offer takes nothing out of what is implied
-    pub calls-more-implied : (lent used again filled : List ℕ) (n : ℕ) (said : Answer) → Question B u v colour lent used (Implied n) → Taken said
-        → Question By u v colour again filled said → IsImplied said
-    calls-more-implied lent used again filled n said before taken-x after =
-        question-tells By u v colour again filled said taken-x after .1
-        (undo-more-implied B By run u v colour u′ v′ colour′ list listed answer taken offer-y (question-implied B u v colour lent used n before))
+  -- ---- 2. The offer takes nothing out of what is implied
 
-    -- x is kept in place of y, and implied once y is offered: then y is implied once x is offered in its place
-    pub calls-exchange : (Bx : Book) (lent used again filled more got : List ℕ) (m n : ℕ) (said : Answer) → Offer B Bx u v colour lent used (Kept m)
-        → Question By u v colour again filled (Implied n) → Taken said → Question Bx u′ v′ colour′ more got said → IsImplied said
-    calls-exchange Bx lent used again filled more got m n said offer-x after taken-y asked =
-        question-tells Bx u′ v′ colour′ more got said taken-y asked .1
-        (undo-exchange B By run u v colour u′ v′ colour′ list listed answer taken offer-y Bx lent used (Kept m) tt offer-x
-        (offer-kept-not-implies B u v colour lent used Bx m offer-x) (question-implied By u v colour again filled n after))
+  pub calls-more-implied : (answer : Answer) → Offer B By u′ v′ colour′ list listed answer → (lent used again filled : List ℕ) (m : ℕ) (said : Answer)
+      → Question B u v colour lent used (Implied m) → circuitRoom ≤ length again → Question By u v colour again filled said → IsImplied said
+  calls-more-implied answer offer-y lent used again filled m said before long asked =
+      tells-implied (edgeChecks (By .n) u v colour) (BookImplies By u v colour) said
+      (subst (λ (z : ℕ). Pass (edgeChecks z u v colour)) (same-n B By u′ v′ colour′ list listed answer offer-y)
+      (passes-edge B u v colour lent (before .checked)))
+      (still-implied B By u′ v′ colour′ list listed answer run offer-y u v colour (question-implied B u v colour lent used m before))
+      (question-tells By u v colour again (offer-grew u′ v′ colour′ list listed answer offer-y (run-grew run) .sound) long filled said asked)
 
-  -- an offer that is answered implied puts nothing in
-  pub calls-implied-adds-none : (lent used again filled : List ℕ) (m n : ℕ) (said : Answer) → Offer B By u′ v′ colour′ list listed (Implied m)
-      → Question By u v colour again filled (Implied n) → Taken said → Question B u v colour lent used said → IsImplied said
-  calls-implied-adds-none lent used again filled m n said offer-y after taken-x before =
-      question-tells B u v colour lent used said taken-x before .1
-      (undo-implied-adds-none B By run u v colour u′ v′ colour′ list listed (Implied m) tt offer-y
-      (offer-implied-implies B u′ v′ colour′ list listed By m offer-y) (question-implied By u v colour again filled n after))
+  -- ---- 3. It was answered implied: it puts nothing in
+
+  pub calls-implied-adds-none : (k : ℕ) → Offer B By u′ v′ colour′ list listed (Implied k) → (lent used again filled : List ℕ) (m : ℕ) (said : Answer)
+      → Question By u v colour again filled (Implied m) → circuitRoom ≤ length lent → Question B u v colour lent used said → IsImplied said
+  calls-implied-adds-none k offer-y lent used again filled m said after long asked =
+      tells-implied (edgeChecks (B .n) u v colour) (BookImplies B u v colour) said
+      (subst (λ (z : ℕ). Pass (edgeChecks z u v colour)) (sym (same-n B By u′ v′ colour′ list listed (Implied k) offer-y))
+      (passes-edge By u v colour again (after .checked)))
+      (undo-implied-adds-none B By run u v colour u′ v′ colour′ list listed (Implied k) tt offer-y
+      (offer-implied-implies B By u′ v′ colour′ list listed k offer-y) (question-implied By u v colour again filled m after))
+      (question-tells B u v colour lent (run-grew run .sound) long used said asked)
+
+  -- ---- 4. Exchange
+
+  module _ (Bx : Book) (lent used : List ℕ) (k : ℕ) (offer-x : Offer B Bx u v colour lent used (Kept k)) where
+    not-implied : ¬ (BookImplies B u v colour)
+    not-implied = offer-kept-not-implies B Bx u v colour lent used k offer-x
+
+    fits : Pass (offerChecks B u′ v′ colour′ list) → Pass (edgeChecks (B .n) u′ v′ colour′)
+    fits c = passes-edge B u′ v′ colour′ list (passes-question B u′ v′ colour′ list c)
+
+    taken-exchanged : (answer : Answer) → Taken answer → Offer B By u′ v′ colour′ list listed answer → BookImplies By u v colour
+        → BookImplies Bx u′ v′ colour′
+    taken-exchanged answer taken o =
+        undo-exchange B By run u v colour u′ v′ colour′ list listed answer taken o Bx lent used (Kept k) tt offer-x not-implied
+
+    -- y fits the book, and is implied once x is offered. (Refused, y would have left x kept.)
+    exchanged : (answer : Answer) → Offer B By u′ v′ colour′ list listed answer → BookImplies By u v colour
+        → Pass (edgeChecks (B .n) u′ v′ colour′) × BookImplies Bx u′ v′ colour′
+    exchanged (Kept c) o i = (fits (o .checked), taken-exchanged (Kept c) tt o i)
+    exchanged (Implied c) o i = (fits (o .checked), taken-exchanged (Implied c) tt o i)
+    exchanged (Refused r) o i = absurd (not-implied (subst (λ (z : Book). BookImplies z u v colour) (o .1) i))
+
+    -- x is kept, and implied once y is offered: then y is implied once x is offered in its place
+    pub calls-exchange : (answer : Answer) → Offer B By u′ v′ colour′ list listed answer → (again filled more got : List ℕ) (m : ℕ) (said : Answer)
+        → Question By u v colour again filled (Implied m) → circuitRoom ≤ length more → Question Bx u′ v′ colour′ more got said → IsImplied said
+    calls-exchange answer offer-y again filled more got m said after long asked =
+        let y = exchanged answer offer-y (question-implied By u v colour again filled m after) in
+        tells-implied (edgeChecks (Bx .n) u′ v′ colour′) (BookImplies Bx u′ v′ colour′) said
+        (subst (λ (z : ℕ). Pass (edgeChecks z u′ v′ colour′)) (same-n B Bx u v colour lent used (Kept k) offer-x) (y .0)) (y .1)
+        (question-tells Bx u′ v′ colour′ more (offer-grew u v colour lent used (Kept k) offer-x (run-grew run) .sound) long got said asked)

@@ -4,6 +4,8 @@ pub mod Sizes
 pub mod Parallel
 pub mod Reasons
 pub mod AsOffer
+pub mod Orders
+pub mod Answered
 pub mod ByCalls
 pub mod WrongPrograms
 pub mod Determined

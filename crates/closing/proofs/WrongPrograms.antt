@@ -28,16 +28,11 @@ use Rattle.theory.proofs.Legal.Kept.{kept-make}
 use Rattle.table.proofs.Trying.{some?, every?}
 use Rattle.table.proofs.LegalTest.{sparse?, legal?, legal-decides}
 use Rattle.placing.proofs.Says.{offered-ends}
+use Rattle.step.specs.Runs.{Taken}
 use Rattle.step.specs.Runs.Run.{opened}
 use Rattle.step.proofs.Runs.{Grew, run-grew, offer-grew}
-use Rattle.step.proofs.Undo.{Taken, taken-design}
-use Rattle.closing.proofs.ByCalls.{IsImplied}
-
--- the answer is kept
-abbrev pub IsKept : Answer → Type 0
-IsKept (Kept n) = Unit
-IsKept (Implied n) = ⊥
-IsKept (Refused r) = ⊥
+use Rattle.step.proofs.Undo.{taken-design}
+use Rattle.closing.specs.Undo.{IsKept, IsImplied}
 
 -- ---- both offers pass the checks
 

@@ -19,7 +19,7 @@ use Rattle.rule.specs.Calls.{Offer, Question}
 use Rattle.theory.specs.Order.{Renumbered, ImpliedBy}
 use Rattle.theory.proofs.Theorems.{order-freedom, order-implies, more-implied, implied-adds-none, exchange-law}
 use Rattle.theory.proofs.Legal.Sound.{sound-ends}
-use Rattle.step.specs.Runs.{Run, BookImplies}
+use Rattle.step.specs.Runs.{Taken, Run, BookImplies}
 use Rattle.placing.proofs.After.{design-after}
 use Rattle.step.proofs.Runs.{Grew, run-grew, offer-grew}
 
@@ -35,17 +35,17 @@ question-kept B u v colour list listed n q implied = implied (q .says .keeps)
 
 -- ---- an offer that is not refused
 
--- the answer is kept or implied
-abbrev pub Taken : Answer → Type 0
-Taken (Kept n) = Unit
-Taken (Implied n) = Unit
-Taken (Refused r) = ⊥
-
 pub taken-design : (before after : Book) (u v colour : ℕ) (list listed : List ℕ) (answer : Answer) → Grew before → Taken answer
     → Offer before after u v colour list listed answer → designOf after ≡ plus (designOf before) u v colour
 taken-design before after u v colour list listed (Kept n) g t o = design-after before after u v colour (o .adds) (g .full) (o .checked .1 .1 .1 .1 .1 .0)
 taken-design before after u v colour list listed (Implied n) g t o = design-after before after u v colour (o .adds) (g .full) (o .checked .1 .1 .1 .1 .1 .0)
 taken-design before after u v colour list listed (Refused r) g t o = absurd t
+
+pub taken-grown : (before after : Book) (u v colour : ℕ) (list listed : List ℕ) (answer : Answer) → Grew before → Taken answer
+    → Offer before after u v colour list listed answer → Grown (plus (designOf before) u v colour) (keptOf after)
+taken-grown before after u v colour list listed answer g t o =
+    subst (λ (d : Design). Grown d (keptOf after)) (taken-design before after u v colour list listed answer g t o)
+    (offer-grew u v colour list listed answer o g .grown)
 
 -- ---- the first law: another order
 
@@ -74,7 +74,7 @@ module _ (B By : Book) (run : Run B) (u v colour u′ v′ colour′ : ℕ) (lis
   design-y = taken-design B By u′ v′ colour′ list listed answer (run-grew run) taken offer-y
 
   grown-y : Grown (plus (designOf B) u′ v′ colour′) (keptOf By)
-  grown-y = subst (λ (d : Design). Grown d (keptOf By)) design-y (offer-grew u′ v′ colour′ list listed answer offer-y (run-grew run) .grown)
+  grown-y = taken-grown B By u′ v′ colour′ list listed answer (run-grew run) taken offer-y
 
   -- it takes nothing out of what is implied
   pub undo-more-implied : BookImplies B u v colour → BookImplies By u v colour
@@ -93,8 +93,7 @@ module _ (B By : Book) (run : Run B) (u v colour u′ v′ colour′ : ℕ) (lis
       → ¬ (BookImplies B u v colour) → BookImplies By u v colour → BookImplies Bx u′ v′ colour′
   undo-exchange Bx lent used said taken-x offer-x not h =
       let design-x : designOf Bx ≡ plus (designOf B) u v colour = taken-design B Bx u v colour lent used said (run-grew run) taken-x offer-x in
-      let grown-x : Grown (plus (designOf B) u v colour) (keptOf Bx) =
-      subst (λ (d : Design). Grown d (keptOf Bx)) design-x (offer-grew u v colour lent used said offer-x (run-grew run) .grown) in
+      let grown-x : Grown (plus (designOf B) u v colour) (keptOf Bx) = taken-grown B Bx u v colour lent used said (run-grew run) taken-x offer-x in
       subst (λ (d : Design). ImpliedBy d (keptOf Bx) u′ v′ colour′) (sym design-x)
       (exchange-law (designOf B) u v colour u′ v′ colour′ (keptOf B) (keptOf By) (run-grew run .grown) grown-y (keptOf Bx) grown-x not
       (subst (λ (d : Design). ImpliedBy d (keptOf By) u v colour) design-y h))
