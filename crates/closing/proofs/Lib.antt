@@ -4,6 +4,7 @@ pub mod Sizes
 pub mod Parallel
 pub mod Reasons
 pub mod AsOffer
+pub mod SomeOffer
 pub mod Orders
 pub mod Answered
 pub mod ByCalls
