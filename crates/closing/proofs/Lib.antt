@@ -8,5 +8,6 @@ pub mod SomeOffer
 pub mod Orders
 pub mod Answered
 pub mod ByCalls
+pub mod Lines
 pub mod WrongPrograms
 pub mod Determined
