@@ -32,7 +32,8 @@ use Rattle.text.specs.Lines.{line}
 use Rattle.text.specs.Sheets.{Edge}
 use Rattle.pages.specs.Keys.{key-kept, key-implied}
 use Rattle.pages.specs.Reads.{Offers, none, then, Reads}
-use Rattle.pages.specs.Reports.{freedomAfter, EdgeLine, edge, Report}
+use Rattle.pages.specs.Reports.{freedomAfter, EdgeLine, edge}
+use Rattle.pages.specs.Texts.{Report}
 use Rattle.step.specs.Runs.{Taken, Run}
 use Rattle.step.specs.Runs.Run.{opened}
 use Rattle.step.proofs.Runs.{Grew, run-grew}

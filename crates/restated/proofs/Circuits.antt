@@ -11,7 +11,7 @@ use mathlib.Core.Logic.{_↔_}
 use mathlib.Core.List.{List, _++_}
 use Prim.Native.Nat.{ℕ, zero, suc, _-_, _≤_}
 use native.Mathlib.Omega.{arith}
-use lib.ListN.{length, getD, take, drop, length-append, length-drop, take-append-drop}
+use lib.ListN.{length, getD, take, drop, take-append-drop}
 use lib.Seq.{length-take-le, take-append-seam, drop-append-seam}
 use Rattle.rule.specs.declared.Book.{Book}
 use Rattle.rule.specs.Sets.{Is, In, one-if, count, at, numbers}
@@ -138,7 +138,7 @@ module _ (B : Book) (u v colour : ℕ) (sound : Sound B) (hu : In (B .n) u) (hv 
         let short : length l ≤ 378 = circuit-short l (says .is-circuit) in
         record {
           fits = omega (arith, says .number);
-          as-long = ap length (says .fills) ∙ length-append l (drop (length l) list) ∙ omega (arith, length-drop (length l) list);
+          as-long = says .as-long;
           is-circuit = subst (CircuitOf B u v colour) (sym front) (circuit-iff l .0 (says .is-circuit));
           past =
               ap₂ (λ (k : ℕ) (z : List ℕ). drop k z) (says .number) (says .fills)
@@ -157,6 +157,7 @@ module _ (B : Book) (u v colour : ℕ) (sound : Sound B) (hu : In (B .n) u) (hv 
           fills =
               sym (take-append-drop number listed)
               ∙ ap (λ (z : List ℕ). take number listed ++ z) (e .past ∙ ap (λ (k : ℕ). drop k list) size);
+          as-long = e .as-long;
         }
 
     pub implied-iff-exact : ImpliesIt B u v colour list listed number ↔ ((¬ LegalWith B u v colour) × ExactCircuit B u v colour list listed number)

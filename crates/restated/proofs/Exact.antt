@@ -17,9 +17,8 @@ use Rattle.rule.specs.Books.{Sound}
 use Rattle.rule.specs.Reasons.{Pass, circuitRoom, questionChecks, offerChecks}
 use Rattle.rule.specs.Calls.{KeepsIt, ImpliesIt, Offer, Question}
 use Rattle.rule.proofs.Outcomes.{AnswersAgree}
-use Rattle.step.proofs.Undo.{Taken}
-use Rattle.closing.proofs.ByCalls.{IsImplied}
-use Rattle.closing.proofs.WrongPrograms.{IsKept}
+use Rattle.step.specs.Runs.{Taken}
+use Rattle.closing.specs.Undo.{IsKept, IsImplied}
 use Rattle.restated.specs.BookBars.{LegalWith, SaysInLists}
 use Rattle.restated.proofs.Kept.{keeps-iff}
 use Rattle.restated.proofs.Circuits.{exact-circuit-determined, implied-iff-exact}

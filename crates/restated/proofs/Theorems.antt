@@ -22,9 +22,8 @@ use Rattle.rule.specs.Books.{designOf, keptOf, offered, next, Sound}
 use Rattle.rule.specs.Reasons.{Pass, circuitRoom, groupsChecks}
 use Rattle.rule.specs.Calls.{ImpliesIt, Offer, Question, Grouped}
 use Rattle.rule.proofs.Outcomes.{AnswersAgree}
-use Rattle.step.proofs.Undo.{Taken}
-use Rattle.closing.proofs.ByCalls.{IsImplied}
-use Rattle.closing.proofs.WrongPrograms.{IsKept}
+use Rattle.step.specs.Runs.{Taken}
+use Rattle.closing.specs.Undo.{IsKept, IsImplied}
 use Rattle.restated.specs.Bars.{LegalBars}
 use Rattle.restated.specs.BookBars.{keptBars, LegalWith, CircuitOf, ExactCircuit, SaysInLists, Together, ExactGroups}
 use Rattle.restated.proofs.Inside.{barsOf}
