@@ -6,7 +6,7 @@
 -- Not here: that a program goes on until all lines have come (Turns.antt). That a write does this with its bytes is what no contract of the C library
 -- says; the definition says it.
 -- Assumes nothing.
-use mathlib.Core.Path.{_≡_, refl, sym, ap, _∙_, subst}
+use mathlib.Core.Path.{_≡_, sym, ap, _∙_, subst}
 use mathlib.Core.Bool.{false, true, true≢false}
 use mathlib.Core.List.{List, [], _++_, append-assoc, append-nil}
 use Prim.Native.Nat.{ℕ, _≤_, _<_}
@@ -22,7 +22,7 @@ use Rattle.settled.proofs.Pages.{pages-to}
 use Rattle.settled.proofs.Texts.{report-of-text}
 use Rattle.printing.specs.declared.output.Sent.{Sent}
 use Rattle.printing.specs.Sending.{allLines, AtFirstLine, Sendable, Sends, stateAfter, TextSent}
-use Rattle.printing.proofs.Turns.{UnderWay, under-way-first, so-far, next-run, under-way-again}
+use Rattle.printing.proofs.Turns.{UnderWay, under-way-first, under-way-to, next-run, under-way-again}
 
 -- from what was begun on, these bytes have arrived, and this is what was handed over
 pub data Arrived (first : Sent) : List ℕ → Sent → Type 0 where
@@ -58,7 +58,7 @@ module _ (first : Sent) (fine : first .failed ≡ false) (start : first .state .
   -- what arrived is the lines up to the state's, none past the last
   pub arrived-lines : {bytes : List ℕ} {r : Sent} → Arrived first bytes r → r .failed ≡ false
       → Spelled (SaysLine first) (r .state .line) bytes × (r .state .line ≤ allLines first)
-  arrived-lines a f = let to = so-far first start (arrived-under-way a f) in (to .spelled, to .few)
+  arrived-lines a f = let to = under-way-to first start (arrived-under-way a f) in (to .spelled, to .few)
 
   -- and so it is all of them, when all were handed over
   pub arrived-all : {kind : Kind} {text bytes : List ℕ} {r : Sent} → Arrived first bytes r → TextSent kind text r → r .failed ≡ false

@@ -25,7 +25,7 @@ use Rattle.paging.specs.Kinds.{formOf}
 use Rattle.settled.proofs.Pages.{Pages, none-yet, page, PagesTo, pages-to, page-further}
 use Rattle.settled.proofs.Whole.{receives-readable}
 use Rattle.printing.specs.declared.output.Sent.{Sent}
-use Rattle.printing.specs.Sending.{allLines, AtFirstLine, Sendable, Sends, stateAfter, Ready, SentFurther, SentLast, TurnSent, LinesSent, TextSent}
+use Rattle.printing.specs.Sending.{allLines, AtFirstLine, Sendable, Sends, stateAfter, BeforeTurn, SentFurther, SentLast, TurnSent, LinesSent, TextSent}
 
 -- so many bytes from the front are so many
 pub counts-within : (n : ℕ) (bytes : List ℕ) → n ≤ length bytes → Counts n bytes
@@ -41,14 +41,14 @@ module _ (s : Sent) (t : State) (buffer buffered : List ℕ) where
   pub over-last : PageWith Line.Over → SentLast s s
   over-last p = record { same = refl; there = refl; all = λ fine. p .1 }
 
-  ready-passes : Ready s buffer → Pass (stepChecks (s .state) buffer)
-  ready-passes r = (r .room, (r .readable, tt))
+  turn-passes : BeforeTurn s buffer → Pass (stepChecks (s .state) buffer)
+  turn-passes r = (r .room, (r .readable, tt))
 
-  pub refused-last : Ready s buffer → (reason : Reason) → PageWith (Line.Refused reason) → SentLast s s
-  refused-last r reason p = absurd (pass-not-fail (stepChecks (s .state) buffer) reason (ready-passes r) (p .0))
+  pub refused-last : BeforeTurn s buffer → (reason : Reason) → PageWith (Line.Refused reason) → SentLast s s
+  refused-last r reason p = absurd (pass-not-fail (stepChecks (s .state) buffer) reason (turn-passes r) (p .0))
 
   -- it was written
-  module _ (size : ℕ) (ready : Ready s buffer) (p : PageWith (Line.Written size)) where
+  module _ (size : ℕ) (ready : BeforeTurn s buffer) (p : PageWith (Line.Written size)) where
     page-within : size ≤ length buffered
     page-within =
         let w = p .writes in
@@ -98,14 +98,14 @@ pub under-way-first : (first : Sent) → first .failed ≡ false → UnderWay fi
 under-way-first first fine = record { same = refl; fine = fine; number = 0; run = none-yet }
 
 module _ (first : Sent) (start : first .state .line ≡ 0) {front : List ℕ} {s : Sent} (u : UnderWay first front s) where
-  pub so-far : PagesTo (formOf (first .kind)) (first .state) (u .number) front (s .state)
-  so-far = pages-to (formOf (first .kind)) (first .state) start (u .run)
+  pub under-way-to : PagesTo (formOf (first .kind)) (first .state) (u .number) front (s .state)
+  under-way-to = pages-to (formOf (first .kind)) (first .state) start (u .run)
 
-  pub under-way-ready : (buffer₀ buffer : List ℕ) → Ready first buffer₀ → length buffer ≡ length buffer₀ → Ready s buffer
-  under-way-ready buffer₀ buffer ready long =
+  pub under-way-turn : (buffer₀ buffer : List ℕ) → BeforeTurn first buffer₀ → length buffer ≡ length buffer₀ → BeforeTurn s buffer
+  under-way-turn buffer₀ buffer ready long =
       record {
         fine = u .fine;
-        readable = subst (λ (z : State). Readable (z .book) (z .received)) (sym (so-far .there)) (ready .readable);
+        readable = subst (λ (z : State). Readable (z .book) (z .received)) (sym (under-way-to .there)) (ready .readable);
         room = omega (arith, ready .room, long);
       }
 
@@ -115,9 +115,9 @@ module _ (first : Sent) (start : first .state .line ≡ 0) {front : List ℕ} {s
       let at : r .state .line ≡ s .state .line = ap (λ (z : State). z .line) (t .there) in
       record {
         same = t .same ∙ u .same;
-        there = t .there ∙ so-far .there ∙ ap (written (first .state)) (sym at);
-        few = omega (arith, at, so-far .few);
-        all = λ fine. omega (arith, at, so-far .few, t .all fine, lines-same first s (s .state .line) (u .same) (so-far .there));
+        there = t .there ∙ under-way-to .there ∙ ap (written (first .state)) (sym at);
+        few = omega (arith, at, under-way-to .few);
+        all = λ fine. omega (arith, at, under-way-to .few, t .all fine, lines-same first s (s .state .line) (u .same) (under-way-to .there));
       }
 
   -- the page that is next, behind those before it
@@ -154,8 +154,8 @@ module _ (first : Sent) (start : first .state .line ≡ 0) {front : List ℕ} {s
 
 -- ---- of a text
 
-pub text-ready : {kind : Kind} {text : List ℕ} {first : Sent} (buffer : List ℕ) → AtFirstLine kind text first → lineRoom ≤ length buffer → Ready first buffer
-text-ready {text = text} {first = first} buffer begun room =
+pub text-turn : {kind : Kind} {text : List ℕ} {first : Sent} (buffer : List ℕ) → AtFirstLine kind text first → lineRoom ≤ length buffer → BeforeTurn first buffer
+text-turn {text = text} {first = first} buffer begun room =
     record { fine = begun .fine; readable = receives-readable text (first .state .book) (first .state .received) (begun .received); room = room }
 
 pub text-sent : {kind : Kind} {text : List ℕ} {first r : Sent} → AtFirstLine kind text first → LinesSent first r → TextSent kind text r

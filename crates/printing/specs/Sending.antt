@@ -58,7 +58,7 @@ pub record Sends (s : Sent) (after : State) (r : Sent) : Type 0 where
 -- ---- a turn
 
 -- a page can be asked for and handed over
-pub record Ready (s : Sent) (buffer : List ℕ) : Type 0 where
+pub record BeforeTurn (s : Sent) (buffer : List ℕ) : Type 0 where
   pub fine : s .failed ≡ false
   pub readable : Readable (s .state .book) (s .state .received)
   pub room : lineRoom ≤ length buffer

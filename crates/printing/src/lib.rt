@@ -9,7 +9,7 @@ ghost use mathlib.Core.Path.{_≡_};
 ghost use mathlib.Core.Bool.{true};
 ghost use lib.ListN.{take};
 ghost use Rattle.io.specs.Counts.{Counts};
-ghost use Rattle.printing.specs.Sending.{Sendable, Sends, Ready, TurnSent, LinesSent, TextSent, Got, InputSent, Printed};
+ghost use Rattle.printing.specs.Sending.{Sendable, Sends, BeforeTurn, TurnSent, LinesSent, TextSent, Got, InputSent, Printed};
 pub use output::Sent;
 use pages::Line;
 use pages::State;
@@ -80,7 +80,7 @@ fn send_front(sent: Sent, after: State, buffer: &[u8], size: usize) -> Sent
 
 // The next page is asked for and handed over.
 fn send_page(sent: Sent, buffer: &mut [u8]) -> Turn
-    requires { ⌜ Ready sent (now buffer) ⌝ }
+    requires { ⌜ BeforeTurn sent (now buffer) ⌝ }
     ensures { λ r. ⌜ TurnSent sent (r .sent) (r .last) ⌝ }
 {
     let page = output::next_page(sent, buffer);
@@ -97,7 +97,7 @@ fn send_page(sent: Sent, buffer: &mut [u8]) -> Turn
 
 // All pages of what was begun, each handed over before the next is asked for.
 fn send_pages(first: Sent, buffer: &mut [u8]) -> Sent
-    requires { ⌜ Ready first (now buffer) × (first .state .line ≡ 0) ⌝ }
+    requires { ⌜ BeforeTurn first (now buffer) × (first .state .line ≡ 0) ⌝ }
     ensures { λ r. ⌜ LinesSent first r ⌝ }
 {
     let mut sent = first;

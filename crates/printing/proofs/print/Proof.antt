@@ -1,6 +1,5 @@
--- `printing::print`: what was read, and the room for it.
+-- `printing::print`: what was read, and the room for it. Assumes nothing.
 use borrow.Author.Needs.{needs}
-use native.Mathlib.Omega.{arith}
 use Rattle.printing.proofs.print.Statement.{statement}
 use Rattle.printing.proofs.print.Tie as tie
 

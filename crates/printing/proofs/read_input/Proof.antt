@@ -1,7 +1,6 @@
--- `printing::read_input`: what was read lies in the buffer, and each read leaves less of it free.
+-- `printing::read_input`: what was read lies in the buffer, and each read leaves less of it free. Assumes nothing.
 use borrow.Author.Needs.{needs}
 use mathlib.Core.Path.{_≡_}
-use native.Mathlib.Omega.{arith}
 use Prim.Native.Nat.{_-_, _≤_}
 use lib.ListN.{length}
 use Rattle.printing.proofs.Turns.{counts-within}

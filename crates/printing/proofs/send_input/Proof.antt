@@ -1,4 +1,4 @@
--- `printing::send_input`: the bytes that were read are a text, and a read that failed is none.
+-- `printing::send_input`: the bytes that were read are a text, and a read that failed is none. Assumes nothing.
 use borrow.Author.Needs.{needs}
 use mathlib.Core.Path.{sym, subst}
 use Rattle.printing.specs.declared.Input.{Input}

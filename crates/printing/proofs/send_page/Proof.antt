@@ -1,6 +1,6 @@
--- `printing::send_page`: what a page is (Turns.antt), by what it answered.
+-- `printing::send_page`: what a page is (Turns.antt), by what it answered. Assumes nothing.
 use borrow.Author.Needs.{needs}
-use mathlib.Core.Path.{_≡_, sym, _∙_, subst, subst₂}
+use mathlib.Core.Path.{_≡_, sym, subst, subst₂}
 use mathlib.Core.Bool.{Bool}
 use Rattle.pages.specs.declared.Line.{Line}
 use Rattle.pages.specs.Steps.{Page}

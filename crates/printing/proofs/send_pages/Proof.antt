@@ -1,4 +1,4 @@
--- `printing::send_pages`: what was handed over is under way at each turn (Turns.antt), and fewer lines are left after it.
+-- `printing::send_pages`: what was handed over is under way at each turn (Turns.antt), and fewer lines are left after it. Assumes nothing.
 use borrow.Author.Needs.{needs}
 use mathlib.Core.Path.{_≡_, refl, _∙_, subst}
 use mathlib.Core.Bool.{Bool, true, false}
@@ -6,7 +6,7 @@ use mathlib.Core.List.{List, []}
 use Prim.Native.Nat.{ℕ, _-_}
 use lib.ListN.{length}
 use Rattle.printing.specs.Sending.{allLines, TurnSent}
-use Rattle.printing.proofs.Turns.{UnderWay, under-way-first, under-way-ready, last-turn, under-way-again, fewer-left}
+use Rattle.printing.proofs.Turns.{UnderWay, under-way-first, under-way-turn, last-turn, under-way-again, fewer-left}
 use Rattle.printing.proofs.send_pages.Statement.{statement}
 use Rattle.printing.proofs.send_pages.Tie as tie
 
@@ -22,7 +22,7 @@ loop-holds c = (([], under-way-first _ (c .before .pre .0 .fine)), refl)
 send-page-requires : tie.Need-send-page-requires Inv-loop μ-loop
 send-page-requires c κs =
     let start = c .before .before .before in
-    under-way-ready _ (start .pre .1) (c .before .loop .inv .0 .1) _ _ (start .pre .0) (c .before .loop .inv .1)
+    under-way-turn _ (start .pre .1) (c .before .loop .inv .0 .1) _ _ (start .pre .0) (c .before .loop .inv .1)
 
 -- a turn that was the last, or was not
 turn : (c : tie.After-send-page Inv-loop μ-loop) (last : Bool) → c .send-page .result .last ≡ last

@@ -1,12 +1,11 @@
--- `printing::send_text`: what was read can be stepped through (crate settled), and its pages are handed over.
+-- `printing::send_text`: what was read can be stepped through (crate settled), and its pages are handed over. Assumes nothing.
 use borrow.Author.Needs.{needs}
-use native.Mathlib.Omega.{arith}
-use Rattle.printing.proofs.Turns.{text-ready, text-sent}
+use Rattle.printing.proofs.Turns.{text-turn, text-sent}
 use Rattle.printing.proofs.send_text.Statement.{statement}
 use Rattle.printing.proofs.send_text.Tie as tie
 
 send-pages-requires : tie.Need-send-pages-requires
-send-pages-requires c κs = let begun = c .before .begin .ensures in (text-ready _ begun (search needs), begun .start)
+send-pages-requires c κs = let begun = c .before .begin .ensures in (text-turn _ begun (search needs), begun .start)
 
 returns : tie.Need-returns
 returns c = text-sent (c .before .before .before .begin .ensures) (c .before .send-pages .ensures)
