@@ -13,13 +13,14 @@ use Prim.Native.Nat.{ℕ, _≤_, _<_}
 use native.Mathlib.Omega.{arith}
 use lib.ListN.{getD}
 use Rattle.pages.specs.declared.State.{State}
-use Rattle.pages.specs.Reports.{Report}
+use Rattle.pages.specs.Reads.{Receives}
 use Rattle.pages.specs.Steps.{linesOf, LineOf}
+use Rattle.pages.specs.Texts.{Report, CertificateOf}
 use Rattle.paging.specs.declared.Kind.{Kind}
 use Rattle.paging.specs.Kinds.{formOf}
 use Rattle.settled.proofs.Spelling.{Spelled}
 use Rattle.settled.proofs.Pages.{pages-to}
-use Rattle.settled.proofs.Texts.{report-of-text}
+use Rattle.settled.proofs.Texts.{report-of-text, certificate-of-text}
 use Rattle.printing.specs.declared.output.Sent.{Sent}
 use Rattle.printing.specs.Sending.{allLines, AtFirstLine, Sendable, Sends, stateAfter, TextSent}
 use Rattle.printing.proofs.Turns.{UnderWay, under-way-first, under-way-to, next-run, under-way-again}
@@ -84,40 +85,51 @@ module _ (first : Sent) (fine : first .failed ≡ false) (start : first .state .
         spelled = subst (Spelled (SaysLine first) (after .line)) (sym (append-assoc bytes front rest)) (to .spelled);
       }
 
--- ---- of a text, its report
+-- ---- of a text
 
-module _ {text : List ℕ} (first : Sent) (begun : AtFirstLine Kind.Report text first) where
-  spelled-report : (k : ℕ) (bytes : List ℕ) → k ≤ allLines first → Spelled (SaysLine first) k bytes → Spelled (Report text) k bytes
-  spelled-report k bytes few s =
+-- what line i says of it: in a report, whichever book was read; in a certificate, of the one book that was read
+abbrev pub TextSays : Kind → List ℕ → Sent → ℕ → List ℕ → Type 0
+TextSays Kind.Report text first = Report text
+TextSays Kind.Certificate text first = CertificateOf (first .state .book) (first .state .received)
+
+line-says : (kind : Kind) (text : List ℕ) (first : Sent) → Receives text (first .state .book) (first .state .received) → (i : ℕ) (x : List ℕ)
+    → i < linesOf (formOf kind) (first .state .book) (first .state .received)
+    → LineOf (formOf kind) (first .state .book) (first .state .received) i x → TextSays kind text first i x
+line-says Kind.Report text first p i x h = report-of-text text (first .state .book) i x (first .state .received) p h .0
+line-says Kind.Certificate text first p i x h = certificate-of-text text (first .state .book) i x (first .state .received) p h .0
+
+module _ {kind : Kind} {text : List ℕ} (first : Sent) (begun : AtFirstLine kind text first) where
+  says : (i : ℕ) (x : List ℕ) → i < allLines first → SaysLine first i x → TextSays kind text first i x
+  says =
+      subst
+      (λ (z : Kind).
+      (i : ℕ) (x : List ℕ) → i < linesOf (formOf z) (first .state .book) (first .state .received)
+      → LineOf (formOf z) (first .state .book) (first .state .received) i x → TextSays kind text first i x)
+      (sym (begun .same)) (line-says kind text first (begun .received))
+
+  spelled-text : (k : ℕ) (bytes : List ℕ) → k ≤ allLines first → Spelled (SaysLine first) k bytes → Spelled (TextSays kind text first) k bytes
+  spelled-text k bytes few s =
       record {
         lines = s .lines;
         is-bytes = s .is-bytes;
         so-many = s .so-many;
         are-lines = λ i h. says i (getD (s .lines) i []) (omega (arith, s .so-many)) (s .are-lines i h);
       }
-    where
-      says : (i : ℕ) (x : List ℕ) → i < allLines first → SaysLine first i x → Report text i x
-      says =
-          subst
-          (λ (kind : Kind).
-          (i : ℕ) (x : List ℕ) → i < linesOf (formOf kind) (first .state .book) (first .state .received)
-          → LineOf (formOf kind) (first .state .book) (first .state .received) i x → Report text i x)
-          (sym (begun .same)) (λ i x h. report-of-text text (first .state .book) i x (first .state .received) (begun .received) h .0)
 
-  -- where no write failed, what arrived is the report, whole
-  pub report-arrived : {bytes : List ℕ} {r : Sent} → Arrived first bytes r → TextSent Kind.Report text r → r .failed ≡ false
-      → Spelled (Report text) (allLines r) bytes
-  report-arrived {bytes = bytes} {r = r} a sent f =
+  -- where no write failed, what arrived is the report or the certificate, whole
+  pub text-arrived : {bytes : List ℕ} {r : Sent} → Arrived first bytes r → TextSent kind text r → r .failed ≡ false
+      → Spelled (TextSays kind text first) (allLines r) bytes
+  text-arrived {bytes = bytes} {r = r} a sent f =
       let lines = arrived-lines first (begun .fine) (begun .start) a f in
-      subst (λ (k : ℕ). Spelled (Report text) k bytes) (sent .all f) (spelled-report (r .state .line) bytes (lines .1) (lines .0))
+      subst (λ (k : ℕ). Spelled (TextSays kind text first) k bytes) (sent .all f) (spelled-text (r .state .line) bytes (lines .1) (lines .0))
 
-  -- where one failed, a prefix of it
-  pub report-front : {bytes : List ℕ} {r : Sent} → Arrived first bytes r → FrontOf (Report text) (allLines first) bytes
-  report-front {bytes = bytes} a =
+  -- where one failed, a front of it
+  pub text-front : {bytes : List ℕ} {r : Sent} → Arrived first bytes r → FrontOf (TextSays kind text first) (allLines first) bytes
+  text-front {bytes = bytes} a =
       let front = arrived-front first (begun .fine) (begun .start) a in
       record {
         rest = front .rest;
         number = front .number;
         few = front .few;
-        spelled = spelled-report (front .number) (bytes ++ front .rest) (front .few) (front .spelled);
+        spelled = spelled-text (front .number) (bytes ++ front .rest) (front .few) (front .spelled);
       }

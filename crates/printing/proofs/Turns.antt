@@ -42,7 +42,7 @@ module _ (s : Sent) (t : State) (buffer buffered : List ℕ) where
   over-last p = record { same = refl; there = refl; all = λ fine. p .1 }
 
   turn-passes : BeforeTurn s buffer → Pass (stepChecks (s .state) buffer)
-  turn-passes r = (r .room, (r .readable, tt))
+  turn-passes r = (r .readable, (r .room, tt))
 
   pub refused-last : BeforeTurn s buffer → (reason : Reason) → PageWith (Line.Refused reason) → SentLast s s
   refused-last r reason p = absurd (pass-not-fail (stepChecks (s .state) buffer) reason (turn-passes r) (p .0))
