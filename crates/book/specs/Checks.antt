@@ -8,7 +8,7 @@ use Rattle.rule.specs.declared.Figure.{Figure}
 use Rattle.rule.specs.declared.Judged.{Judged}
 use Rattle.rule.specs.declared.Verdict.the-variants.{Tight}
 use Rattle.rule.specs.Sets.{In}
-use Rattle.rule.specs.Books.{designOf, forestOf, ColourRange}
+use Rattle.rule.specs.Books.{Edge, designOf, forestOf, ColourRange}
 use Rattle.rule.specs.Reasons.{Check, Pass, Fail, plain, room, circuitRoom}
 use Rattle.tables.specs.Tables.{Tabled}
 use Rattle.planting.specs.Calls.{Sized}
@@ -25,9 +25,9 @@ Found checks more Checked.Fine = Pass checks × more
 Found checks more (Checked.Refused reason) = Fail checks reason
 
 -- the checks 5, 3, 4, 7 of an offered edge and the lent list
-abbrev pub edgeChecks : (n u v colour : ℕ) → List ℕ → List Check
-edgeChecks n u v colour list =
-    plain 5 (ColourRange colour) ∷ plain 3 (In n u × In n v) ∷ plain 4 (u ≢ v) ∷ room circuitRoom list ∷ []
+abbrev pub edgeChecks : (n : ℕ) → Edge → List ℕ → List Check
+edgeChecks n given list =
+    plain 5 (ColourRange (given .colour)) ∷ plain 3 (In n (given .one) × In n (given .other)) ∷ plain 4 (given .one ≢ given .other) ∷ room circuitRoom list ∷ []
 
 -- a refusal, handed on by the calls that answer a figure or a verdict
 abbrev pub figureOf : Checked → Figure

@@ -19,7 +19,7 @@ ghost use mathlib.Core.List.{List};
 ghost use Prim.Native.Nat.{ℕ, _≤_, _<_};
 ghost use lib.ListN.{length, getD};
 ghost use Rattle.rule.specs.Sets.{Is, In};
-ghost use Rattle.rule.specs.Books.{ColourRange};
+ghost use Rattle.rule.specs.Books.{ColourRange, theEdge};
 ghost use Rattle.rule.specs.Reasons.{questionChecks, offerChecks, bookChecks};
 ghost use Rattle.rule.specs.Calls.{newBook, Open};
 ghost use Rattle.planting.specs.Calls.{Sized};
@@ -269,7 +269,7 @@ fn coloured(colour: usize) -> bool
 
 // The checks 5, 3, 4 and 7 of an edge that is offered to a book of n bodies, with a list of so many places.
 fn asked(n: u8, u: usize, v: usize, colour: usize, places: usize) -> Checked
-    ensures { λ r. ⌜ ((list : List ℕ) → length list ≡ places → Found (edgeChecks n u v colour list) Unit r) ⌝ }
+    ensures { λ r. ⌜ ((list : List ℕ) → length list ≡ places → Found (edgeChecks n (theEdge u v colour) list) Unit r) ⌝ }
 {
     if !coloured(colour) {
         return Checked::Refused(Reason::Colour);
@@ -300,7 +300,7 @@ pub fn question_checks(
     size: &mut [u8; 6],
 ) -> Checked
     requires { ⌜ Sized (now root) (now way) (now who) (now edge) (now size) ⌝ }
-    ensures { λ r. ⌜ ((list : List ℕ) → length list ≡ places → Found (questionChecks book u v colour list) (Holds book (now (root .exit)) (now (way .exit)) (now (who .exit)) (now (edge .exit)) (now (size .exit))) r) ⌝ }
+    ensures { λ r. ⌜ ((list : List ℕ) → length list ≡ places → Found (questionChecks book (theEdge u v colour) list) (Holds book (now (root .exit)) (now (way .exit)) (now (who .exit)) (now (edge .exit)) (now (size .exit))) r) ⌝ }
 {
     let c = sound(book, root, way, who, edge, size);
     let Checked::Fine = c else {
@@ -324,7 +324,7 @@ pub fn offer_checks(
     size: &mut [u8; 6],
 ) -> Checked
     requires { ⌜ Sized (now root) (now way) (now who) (now edge) (now size) ⌝ }
-    ensures { λ r. ⌜ ((list : List ℕ) → length list ≡ places → Found (offerChecks book u v colour list) (Holds book (now (root .exit)) (now (way .exit)) (now (who .exit)) (now (edge .exit)) (now (size .exit))) r) ⌝ }
+    ensures { λ r. ⌜ ((list : List ℕ) → length list ≡ places → Found (offerChecks book (theEdge u v colour) list) (Holds book (now (root .exit)) (now (way .exit)) (now (who .exit)) (now (edge .exit)) (now (size .exit))) r) ⌝ }
 {
     let c = question_checks(book, u, v, colour, places, root, way, who, edge, size);
     let Checked::Fine = c else {

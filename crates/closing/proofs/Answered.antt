@@ -18,7 +18,7 @@ use Rattle.rule.specs.declared.Answer.{Answer}
 use Rattle.rule.specs.declared.Answer.the-variants.{Kept, Implied, Refused}
 use Rattle.rule.specs.Sets.{In}
 use Rattle.rule.specs.Figures.{freedom}
-use Rattle.rule.specs.Books.{designOf, keptOf, ColourRange, Sound}
+use Rattle.rule.specs.Books.{Edge, designOf, keptOf, ColourRange, Sound}
 use Rattle.rule.specs.Reasons.{Check, plain, room, circuitRoom, Pass, Fail, questionChecks, bookChecks}
 use Rattle.rule.specs.Calls.{Offer, Question, Freedom}
 use Rattle.rule.proofs.Determined.{Single, nothing-single, fail-determined, pass-not-fail}
@@ -29,20 +29,20 @@ use Rattle.closing.proofs.AsOffer.{fail-shorter}
 
 -- ---- an offer
 
-module _ (B after : Book) (u v colour : ℕ) (list listed : List ℕ) (n : ℕ) where
-  pub offer-implied-implies : Offer B after u v colour list listed (Implied n) → BookImplies B u v colour
+module _ (B after : Book) (given : Edge) (list listed : List ℕ) (n : ℕ) where
+  pub offer-implied-implies : Offer B after given list listed (Implied n) → BookImplies B given
   unfolding designOf
   offer-implied-implies o = o .says .implies
 
-  pub offer-kept-not-implies : Offer B after u v colour list listed (Kept n) → ¬ (BookImplies B u v colour)
+  pub offer-kept-not-implies : Offer B after given list listed (Kept n) → ¬ (BookImplies B given)
   unfolding designOf
   offer-kept-not-implies o implied = implied (o .says .keeps)
 
 -- ---- a question
 
 -- the checks of a question that name the edge, over so many bodies
-abbrev pub edgeChecks : (n u v colour : ℕ) → List Check
-edgeChecks n u v colour = plain 5 (ColourRange colour) ∷ plain 3 (In n u × In n v) ∷ plain 4 (u ≢ v) ∷ []
+abbrev pub edgeChecks : (n : ℕ) → Edge → List Check
+edgeChecks n given = plain 5 (ColourRange (given .colour)) ∷ plain 3 (In n (given .one) × In n (given .other)) ∷ plain 4 (given .one ≢ given .other) ∷ []
 
 -- an answer says whether the checks pass and, where they do, whether the edge is implied
 abbrev pub Tells : List Check → Type 0 → Answer → Type 0
@@ -50,20 +50,20 @@ Tells checks implied (Kept n) = Pass checks × ¬ implied
 Tells checks implied (Implied n) = Pass checks × implied
 Tells checks implied (Refused r) = Fail checks r
 
-module _ (B : Book) (u v colour : ℕ) (list : List ℕ) where
-  pub passes-edge : Pass (questionChecks B u v colour list) → Pass (edgeChecks (B .n) u v colour)
+module _ (B : Book) (given : Edge) (list : List ℕ) where
+  pub passes-edge : Pass (questionChecks B given list) → Pass (edgeChecks (B .n) given)
   passes-edge c = (c .1 .0, (c .1 .1 .0, (c .1 .1 .1 .0, tt)))
 
   module _ (sound : Sound B) (long : circuitRoom ≤ length list) where
-    fails-edge : (r : Reason) → Fail (questionChecks B u v colour list) r → Fail (edgeChecks (B .n) u v colour) r
+    fails-edge : (r : Reason) → Fail (questionChecks B given list) r → Fail (edgeChecks (B .n) given) r
     fails-edge r (inl f) = absurd (f .0 sound)
     fails-edge r (inr f) =
-        ⊎-elim (λ g. g) (λ g. absurd (g .0 long)) (fail-shorter (room circuitRoom list) (edgeChecks (B .n) u v colour) r (f .1))
+        ⊎-elim (λ g. g) (λ g. absurd (g .0 long)) (fail-shorter (room circuitRoom list) (edgeChecks (B .n) given) r (f .1))
 
-    pub question-tells : (listed : List ℕ) (said : Answer) → Question B u v colour list listed said
-        → Tells (edgeChecks (B .n) u v colour) (BookImplies B u v colour) said
-    question-tells listed (Kept n) q = (passes-edge (q .checked), question-kept B u v colour list listed n q)
-    question-tells listed (Implied n) q = (passes-edge (q .checked), question-implied B u v colour list listed n q)
+    pub question-tells : (listed : List ℕ) (said : Answer) → Question B given list listed said
+        → Tells (edgeChecks (B .n) given) (BookImplies B given) said
+    question-tells listed (Kept n) q = (passes-edge (q .checked), question-kept B given list listed n q)
+    question-tells listed (Implied n) q = (passes-edge (q .checked), question-implied B given list listed n q)
     question-tells listed (Refused r) q = fails-edge r (q .0)
 
 -- ---- what is said
@@ -87,8 +87,8 @@ tells-alike checks one here there same (Refused r) (Kept n) s t = pass-not-fail 
 tells-alike checks one here there same (Refused r) (Implied n) s t = pass-not-fail checks r (t .0) s
 tells-alike checks one here there same (Refused r) (Refused q) s t = fail-determined checks one s t
 
-pub edge-single : (n u v colour : ℕ) → Single (edgeChecks n u v colour)
-edge-single n u v colour = (nothing-single, (nothing-single, (nothing-single, tt)))
+pub edge-single : (n : ℕ) (given : Edge) → Single (edgeChecks n given)
+edge-single n given = (nothing-single, (nothing-single, (nothing-single, tt)))
 
 -- ---- freedom
 

@@ -15,7 +15,7 @@ use Rattle.rule.specs.declared.Reason.{Reason}
 use Rattle.rule.specs.declared.Reason.the-variants.{Full}
 use Rattle.rule.specs.declared.Answer.{Answer}
 use Rattle.rule.specs.declared.Answer.the-variants.{Kept, Implied, Refused}
-use Rattle.rule.specs.Books.{forestOf, capacity}
+use Rattle.rule.specs.Books.{Edge, forestOf, capacity}
 use Rattle.rule.specs.Reasons.{numberOf, placeOf, Check, plain, Pass, Fail, questionChecks, offerChecks}
 use Rattle.rule.specs.Calls.{Offer, Question}
 use Rattle.rule.proofs.Determined.{reason-determined, pass-not-fail}
@@ -45,23 +45,23 @@ module _ (c : Check) where
   fail-longer (first ∷ rest) reason (inl f) = inl f
   fail-longer (first ∷ rest) reason (inr f) = inr (f .0, fail-longer rest reason (f .1))
 
-module _ (B : Book) (u v colour : ℕ) (list : List ℕ) where
+module _ (B : Book) (given : Edge) (list : List ℕ) where
   abbrev pub six : Check
   six = plain 6 (B .count < capacity)
 
-  pub passes-question : Pass (offerChecks B u v colour list) → Pass (questionChecks B u v colour list)
-  passes-question = pass-shorter six (questionChecks B u v colour list)
+  pub passes-question : Pass (offerChecks B given list) → Pass (questionChecks B given list)
+  passes-question = pass-shorter six (questionChecks B given list)
 
   -- an offer is refused for a reason of the question, or for 6
-  refused-for : (reason : Reason) → Fail (offerChecks B u v colour list) reason → Fail (questionChecks B u v colour list) reason ⊎ (reason ≡ Full)
+  refused-for : (reason : Reason) → Fail (offerChecks B given list) reason → Fail (questionChecks B given list) reason ⊎ (reason ≡ Full)
   refused-for reason f =
-      ⊎-elim (λ g. inl g) (λ g. inr (reason-determined reason Full (g .1) (g .2))) (fail-shorter six (questionChecks B u v colour list) reason f)
+      ⊎-elim (λ g. inl g) (λ g. inr (reason-determined reason Full (g .1) (g .2))) (fail-shorter six (questionChecks B given list) reason f)
 
   -- ---- the same answers
 
   -- what an offer answers, but for 6, a question may answer
-  pub offer-as-question : (after : Book) (listed : List ℕ) (answer : Answer) → Offer B after u v colour list listed answer
-      → answer ≢ Refused Full → Question B u v colour list listed answer
+  pub offer-as-question : (after : Book) (listed : List ℕ) (answer : Answer) → Offer B after given list listed answer
+      → answer ≢ Refused Full → Question B given list listed answer
   offer-as-question after listed (Kept c) o not-six =
       record {
         checked = passes-question (o .checked);
@@ -75,25 +75,25 @@ module _ (B : Book) (u v colour : ℕ) (list : List ℕ) where
       (⊎-elim (λ f. f) (λ q. absurd (not-six (ap Refused q))) (refused-for reason (o .0)), o .2)
 
   -- kept with kept; implied with implied, of one length and list; refused with refused, for one reason
-  pub question-as-offer : (after : Book) (listed lines : List ℕ) (answer said : Answer) → Offer B after u v colour list listed answer
-      → answer ≢ Refused Full → Question B u v colour list lines said → AnswersAgree (listed ≡ lines) (listed ≡ lines) answer said
+  pub question-as-offer : (after : Book) (listed lines : List ℕ) (answer said : Answer) → Offer B after given list listed answer
+      → answer ≢ Refused Full → Question B given list lines said → AnswersAgree (listed ≡ lines) (listed ≡ lines) answer said
   question-as-offer after listed lines answer said o not-six q =
-      question-determined B u v colour list listed lines answer said (offer-as-question after listed answer o not-six) q
+      question-determined B given list listed lines answer said (offer-as-question after listed answer o not-six) q
 
   -- ---- a full book
 
-  taken-passes : (listed : List ℕ) (said : Answer) → Taken said → Question B u v colour list listed said → Pass (questionChecks B u v colour list)
+  taken-passes : (listed : List ℕ) (said : Answer) → Taken said → Question B given list listed said → Pass (questionChecks B given list)
   taken-passes listed (Kept c) taken q = q .checked
   taken-passes listed (Implied c) taken q = q .checked
   taken-passes listed (Refused reason) taken q = absurd taken
 
-  six-when-full : (after : Book) (listed : List ℕ) (answer : Answer) → capacity ≤ B .count → Pass (questionChecks B u v colour list)
-      → Offer B after u v colour list listed answer → answer ≡ Refused Full
+  six-when-full : (after : Book) (listed : List ℕ) (answer : Answer) → capacity ≤ B .count → Pass (questionChecks B given list)
+      → Offer B after given list listed answer → answer ≡ Refused Full
   six-when-full after listed (Kept c) full pass o = absurd (omega (arith, o .checked .1 .1 .1 .1 .1 .0))
   six-when-full after listed (Implied c) full pass o = absurd (omega (arith, o .checked .1 .1 .1 .1 .1 .0))
   six-when-full after listed (Refused reason) full pass o =
-      ⊎-elim (λ f. absurd (pass-not-fail (questionChecks B u v colour list) reason pass f)) (λ q. ap Refused q) (refused-for reason (o .0))
+      ⊎-elim (λ f. absurd (pass-not-fail (questionChecks B given list) reason pass f)) (λ q. ap Refused q) (refused-for reason (o .0))
 
   pub full-book-six : (after : Book) (listed lines : List ℕ) (answer said : Answer) → capacity ≤ B .count → Taken said
-      → Question B u v colour list lines said → Offer B after u v colour list listed answer → answer ≡ Refused Full
+      → Question B given list lines said → Offer B after given list listed answer → answer ≡ Refused Full
   full-book-six after listed lines answer said full taken q o = six-when-full after listed answer full (taken-passes lines said taken q) o

@@ -19,10 +19,9 @@ use Rattle.rule.specs.declared.Book.{Book}
 use Rattle.rule.specs.declared.Figure.{Figure}
 use Rattle.rule.specs.declared.Answer.{Answer}
 use Rattle.rule.specs.declared.Answer.the-variants.{Kept, Implied, Refused}
-use Rattle.rule.specs.Books.{designOf, Sound}
+use Rattle.rule.specs.Books.{Edge, designOf, Sound}
 use Rattle.rule.specs.Reasons.{circuitRoom, Pass, offerChecks}
 use Rattle.rule.specs.Calls.{Offer, Question, Freedom}
-use Rattle.text.specs.Sheets.{Edge}
 use Rattle.step.specs.Runs.{Taken, Run, BookImplies}
 use Rattle.step.proofs.Runs.{run-grew, offer-grew}
 use Rattle.step.proofs.Undo.{question-implied, undo-order-freedom, undo-order-implied, undo-more-implied, undo-implied-adds-none, undo-exchange}
@@ -50,16 +49,16 @@ module _ {a b n : ℕ} {edges others : List Edge} {B C : Book} (came-B : Came a 
   same-bodies = order-of .renumbered .n
 
   -- the questions answer alike
-  pub calls-order-alike : (u v colour : ℕ) (list listed lent used : List ℕ) (said told : Answer) → circuitRoom ≤ length list
-      → circuitRoom ≤ length lent → Question B u v colour list listed said → Question C u v colour lent used told → Alike said told
-  calls-order-alike u v colour list listed lent used said told long-B long-C p q =
+  pub calls-order-alike : (given : Edge) (list listed lent used : List ℕ) (said told : Answer) → circuitRoom ≤ length list
+      → circuitRoom ≤ length lent → Question B given list listed said → Question C given lent used told → Alike said told
+  calls-order-alike given list listed lent used said told long-B long-C p q =
       let r = order-of in
-      tells-alike (edgeChecks (B .n) u v colour) (edge-single (B .n) u v colour) (BookImplies B u v colour) (BookImplies C u v colour)
+      tells-alike (edgeChecks (B .n) given) (edge-single (B .n) given) (BookImplies B given) (BookImplies C given)
       (λ fits.
-      undo-order-implied B C (came-run came-B) (came-run came-C) (r .to) (r .fro) (r .renumbered) u v colour (fits .1 .0 .0) (fits .1 .0 .1))
-      said told (question-tells B u v colour list sound-B long-B listed said p)
-      (subst (λ (z : ℕ). Tells (edgeChecks z u v colour) (BookImplies C u v colour) told) (sym same-bodies)
-      (question-tells C u v colour lent sound-C long-C used told q))
+      undo-order-implied B C (came-run came-B) (came-run came-C) (r .to) (r .fro) (r .renumbered) given (fits .1 .0 .0) (fits .1 .0 .1))
+      said told (question-tells B given list sound-B long-B listed said p)
+      (subst (λ (z : ℕ). Tells (edgeChecks z given) (BookImplies C given) told) (sym same-bodies)
+      (question-tells C given lent sound-C long-C used told q))
 
   -- the freedom is the same
   pub calls-order-freedom : (x y : Figure) → Freedom B x → Freedom C y → x ≡ y
@@ -71,71 +70,71 @@ module _ {a b n : ℕ} {edges others : List Edge} {B C : Book} (came-B : Came a 
 
 -- ---- an offer
 
-module _ (B after : Book) (u v colour : ℕ) (list listed : List ℕ) where
+module _ (B after : Book) (given : Edge) (list listed : List ℕ) where
   -- the number of bodies stays, so an edge that fits one of the books fits the other
-  same-n : (answer : Answer) → Offer B after u v colour list listed answer → B .n ≡ after .n
+  same-n : (answer : Answer) → Offer B after given list listed answer → B .n ≡ after .n
   same-n (Kept c) o = sym (o .adds .n)
   same-n (Implied c) o = sym (o .adds .n)
   same-n (Refused r) o = sym (ap (λ (z : Book). z .n) (o .1))
 
   -- what is implied stays so
-  still-implied : (answer : Answer) → Run B → Offer B after u v colour list listed answer → (x y c : ℕ) → BookImplies B x y c → BookImplies after x y c
-  still-implied (Kept n) run o x y c i = undo-more-implied B after run x y c u v colour list listed (Kept n) tt o i
-  still-implied (Implied n) run o x y c i = undo-more-implied B after run x y c u v colour list listed (Implied n) tt o i
+  still-implied : (answer : Answer) → Run B → Offer B after given list listed answer → (x y c : ℕ) → BookImplies B x y c → BookImplies after x y c
+  still-implied (Kept n) run o x y c i = undo-more-implied B after run x y c given list listed (Kept n) tt o i
+  still-implied (Implied n) run o x y c i = undo-more-implied B after run x y c given list listed (Implied n) tt o i
   still-implied (Refused r) run o x y c i = subst (λ (z : Book). BookImplies z x y c) (sym (o .1)) i
 
 -- ---- the other laws: the edge x is between u and v, the edge y between u′ and v′, and y is offered to a book
 
-module _ (B By : Book) (run : Run B) (u v colour u′ v′ colour′ : ℕ) (list listed : List ℕ) where
+module _ (B By : Book) (run : Run B) (given given′ : Edge) (list listed : List ℕ) where
   -- ---- 2. The offer takes nothing out of what is implied
 
-  pub calls-more-implied : (answer : Answer) → Offer B By u′ v′ colour′ list listed answer → (lent used again filled : List ℕ) (m : ℕ) (said : Answer)
-      → Question B u v colour lent used (Implied m) → circuitRoom ≤ length again → Question By u v colour again filled said → IsImplied said
+  pub calls-more-implied : (answer : Answer) → Offer B By given′ list listed answer → (lent used again filled : List ℕ) (m : ℕ) (said : Answer)
+      → Question B given lent used (Implied m) → circuitRoom ≤ length again → Question By given again filled said → IsImplied said
   calls-more-implied answer offer-y lent used again filled m said before long asked =
-      tells-implied (edgeChecks (By .n) u v colour) (BookImplies By u v colour) said
-      (subst (λ (z : ℕ). Pass (edgeChecks z u v colour)) (same-n B By u′ v′ colour′ list listed answer offer-y)
-      (passes-edge B u v colour lent (before .checked)))
-      (still-implied B By u′ v′ colour′ list listed answer run offer-y u v colour (question-implied B u v colour lent used m before))
-      (question-tells By u v colour again (offer-grew u′ v′ colour′ list listed answer offer-y (run-grew run) .sound) long filled said asked)
+      tells-implied (edgeChecks (By .n) given) (BookImplies By given) said
+      (subst (λ (z : ℕ). Pass (edgeChecks z given)) (same-n B By given′ list listed answer offer-y)
+      (passes-edge B given lent (before .checked)))
+      (still-implied B By given′ list listed answer run offer-y given (question-implied B given lent used m before))
+      (question-tells By given again (offer-grew given′ list listed answer offer-y (run-grew run) .sound) long filled said asked)
 
   -- ---- 3. It was answered implied: it puts nothing in
 
-  pub calls-implied-adds-none : (k : ℕ) → Offer B By u′ v′ colour′ list listed (Implied k) → (lent used again filled : List ℕ) (m : ℕ) (said : Answer)
-      → Question By u v colour again filled (Implied m) → circuitRoom ≤ length lent → Question B u v colour lent used said → IsImplied said
+  pub calls-implied-adds-none : (k : ℕ) → Offer B By given′ list listed (Implied k) → (lent used again filled : List ℕ) (m : ℕ) (said : Answer)
+      → Question By given again filled (Implied m) → circuitRoom ≤ length lent → Question B given lent used said → IsImplied said
   calls-implied-adds-none k offer-y lent used again filled m said after long asked =
-      tells-implied (edgeChecks (B .n) u v colour) (BookImplies B u v colour) said
-      (subst (λ (z : ℕ). Pass (edgeChecks z u v colour)) (sym (same-n B By u′ v′ colour′ list listed (Implied k) offer-y))
-      (passes-edge By u v colour again (after .checked)))
-      (undo-implied-adds-none B By run u v colour u′ v′ colour′ list listed (Implied k) tt offer-y
-      (offer-implied-implies B By u′ v′ colour′ list listed k offer-y) (question-implied By u v colour again filled m after))
-      (question-tells B u v colour lent (run-grew run .sound) long used said asked)
+      tells-implied (edgeChecks (B .n) given) (BookImplies B given) said
+      (subst (λ (z : ℕ). Pass (edgeChecks z given)) (sym (same-n B By given′ list listed (Implied k) offer-y))
+      (passes-edge By given again (after .checked)))
+      (undo-implied-adds-none B By run given given′ list listed (Implied k) tt offer-y
+      (offer-implied-implies B By given′ list listed k offer-y) (question-implied By given again filled m after))
+      (question-tells B given lent (run-grew run .sound) long used said asked)
 
   -- ---- 4. Exchange
 
-  module _ (Bx : Book) (lent used : List ℕ) (k : ℕ) (offer-x : Offer B Bx u v colour lent used (Kept k)) where
-    not-implied : ¬ (BookImplies B u v colour)
-    not-implied = offer-kept-not-implies B Bx u v colour lent used k offer-x
+  module _ (Bx : Book) (lent used : List ℕ) (k : ℕ) (offer-x : Offer B Bx given lent used (Kept k)) where
+    not-implied : ¬ (BookImplies B given)
+    not-implied = offer-kept-not-implies B Bx given lent used k offer-x
 
-    fits : Pass (offerChecks B u′ v′ colour′ list) → Pass (edgeChecks (B .n) u′ v′ colour′)
-    fits c = passes-edge B u′ v′ colour′ list (passes-question B u′ v′ colour′ list c)
+    fits : Pass (offerChecks B given′ list) → Pass (edgeChecks (B .n) given′)
+    fits c = passes-edge B given′ list (passes-question B given′ list c)
 
-    taken-exchanged : (answer : Answer) → Taken answer → Offer B By u′ v′ colour′ list listed answer → BookImplies By u v colour
-        → BookImplies Bx u′ v′ colour′
+    taken-exchanged : (answer : Answer) → Taken answer → Offer B By given′ list listed answer → BookImplies By given
+        → BookImplies Bx given′
     taken-exchanged answer taken o =
-        undo-exchange B By run u v colour u′ v′ colour′ list listed answer taken o Bx lent used (Kept k) tt offer-x not-implied
+        undo-exchange B By run given given′ list listed answer taken o Bx lent used (Kept k) tt offer-x not-implied
 
     -- y fits the book, and is implied once x is offered. (Refused, y would have left x kept.)
-    exchanged : (answer : Answer) → Offer B By u′ v′ colour′ list listed answer → BookImplies By u v colour
-        → Pass (edgeChecks (B .n) u′ v′ colour′) × BookImplies Bx u′ v′ colour′
+    exchanged : (answer : Answer) → Offer B By given′ list listed answer → BookImplies By given
+        → Pass (edgeChecks (B .n) given′) × BookImplies Bx given′
     exchanged (Kept c) o i = (fits (o .checked), taken-exchanged (Kept c) tt o i)
     exchanged (Implied c) o i = (fits (o .checked), taken-exchanged (Implied c) tt o i)
-    exchanged (Refused r) o i = absurd (not-implied (subst (λ (z : Book). BookImplies z u v colour) (o .1) i))
+    exchanged (Refused r) o i = absurd (not-implied (subst (λ (z : Book). BookImplies z given) (o .1) i))
 
     -- x is kept, and implied once y is offered: then y is implied once x is offered in its place
-    pub calls-exchange : (answer : Answer) → Offer B By u′ v′ colour′ list listed answer → (again filled more got : List ℕ) (m : ℕ) (said : Answer)
-        → Question By u v colour again filled (Implied m) → circuitRoom ≤ length more → Question Bx u′ v′ colour′ more got said → IsImplied said
+    pub calls-exchange : (answer : Answer) → Offer B By given′ list listed answer → (again filled more got : List ℕ) (m : ℕ) (said : Answer)
+        → Question By given again filled (Implied m) → circuitRoom ≤ length more → Question Bx given′ more got said → IsImplied said
     calls-exchange answer offer-y again filled more got m said after long asked =
-        let y = exchanged answer offer-y (question-implied By u v colour again filled m after) in
-        tells-implied (edgeChecks (Bx .n) u′ v′ colour′) (BookImplies Bx u′ v′ colour′) said
-        (subst (λ (z : ℕ). Pass (edgeChecks z u′ v′ colour′)) (same-n B Bx u v colour lent used (Kept k) offer-x) (y .0)) (y .1)
-        (question-tells Bx u′ v′ colour′ more (offer-grew u v colour lent used (Kept k) offer-x (run-grew run) .sound) long got said asked)
+        let y = exchanged answer offer-y (question-implied By given again filled m after) in
+        tells-implied (edgeChecks (Bx .n) given′) (BookImplies Bx given′) said
+        (subst (λ (z : ℕ). Pass (edgeChecks z given′)) (same-n B Bx given lent used (Kept k) offer-x) (y .0)) (y .1)
+        (question-tells Bx given′ more (offer-grew given lent used (Kept k) offer-x (run-grew run) .sound) long got said asked)

@@ -14,7 +14,7 @@ use Rattle.rule.specs.declared.Answer.{Answer}
 use Rattle.rule.specs.declared.Done.{Done}
 use Rattle.rule.specs.declared.Figure.{Figure}
 use Rattle.rule.specs.declared.Judged.{Judged}
-use Rattle.rule.specs.Books.{next}
+use Rattle.rule.specs.Books.{Edge, next}
 use Rattle.rule.specs.Calls.{Open, Offer, Question, Freedom, Dropped, Judge, Grouped}
 use Rattle.rule.proofs.Outcomes.{SameButForests, AnswersAgree}
 use Rattle.rule.proofs.Outcomes as Outcomes
@@ -37,15 +37,15 @@ pub open-agrees : (a b n : ℕ) (book other : Book) (x y : Done) → Open a b n 
 open-agrees = Outcomes.open-determined
 
 -- `step::offer`
-pub offer-agrees : (B : Book) (u v colour : ℕ) (list : List ℕ) (after other : Book) (listed lines : List ℕ) (x y : Answer)
-    → Offer B after u v colour list listed x → Offer B other u v colour list lines y
+pub offer-agrees : (B : Book) (given : Edge) (list : List ℕ) (after other : Book) (listed lines : List ℕ) (x y : Answer)
+    → Offer B after given list listed x → Offer B other given list lines y
     → AnswersAgree (SameButForests (next B) after other × (listed ≡ lines)) ((after ≡ other) × (listed ≡ lines)) x y
-offer-agrees B u v colour list = Outcomes.offer-determined B u v colour list
+offer-agrees B given list = Outcomes.offer-determined B given list
 
 -- `step::question`
-pub question-agrees : (B : Book) (u v colour : ℕ) (list listed lines : List ℕ) (x y : Answer) → Question B u v colour list listed x
-    → Question B u v colour list lines y → AnswersAgree (listed ≡ lines) (listed ≡ lines) x y
-question-agrees B u v colour list = Outcomes.question-determined B u v colour list
+pub question-agrees : (B : Book) (given : Edge) (list listed lines : List ℕ) (x y : Answer) → Question B given list listed x
+    → Question B given list lines y → AnswersAgree (listed ≡ lines) (listed ≡ lines) x y
+question-agrees B given list = Outcomes.question-determined B given list
 
 -- `book::freedom`
 pub freedom-agrees : (B : Book) (x y : Figure) → Freedom B x → Freedom B y → x ≡ y

@@ -21,7 +21,7 @@ use Rattle.rule.specs.declared.Answer.the-variants.{Kept, Implied, Refused}
 use Rattle.rule.specs.Sets.{Is, _and_, _<?_, Set, In, below, count}
 use Rattle.rule.specs.Legal.{Design, Keeps, Circuit}
 use Rattle.rule.specs.Figures.{freedom}
-use Rattle.rule.specs.Books.{designOf, forestOf, keptOf, offered, next, plus}
+use Rattle.rule.specs.Books.{Edge, designOf, forestOf, keptOf, offered, next, plus}
 use Rattle.rule.specs.Calls.{newBook, Offer}
 use Rattle.rule.proofs.Tests.{same-test, by-le, in-split, below-in, below-lt, below-make}
 use Rattle.rule.proofs.Counting.{Agree, count-eq}
@@ -29,7 +29,6 @@ use Rattle.theory.proofs.Legal.Kept.{kept-most}
 use Rattle.theory.proofs.Laws.Grown.{old-kept, new-kept}
 use Rattle.theory.proofs.Laws.Circuits.{circuit-agree, circuit-longer}
 use Rattle.text.specs.Lines.{line}
-use Rattle.text.specs.Sheets.{Edge}
 use Rattle.pages.specs.Keys.{key-kept, key-implied}
 use Rattle.pages.specs.Reads.{Offers, none, then, Reads}
 use Rattle.pages.specs.Reports.{freedomAfter, EdgeLine, edge}
@@ -48,8 +47,8 @@ below-agree : (m : ℕ) (s t : Set) (e : ℕ) → Agree m s t → Agree m (below
 unfolding below
 below-agree m s t e same i h = ap (λ (b : Bool). b and i <? e) (same i h)
 
-module _ (d : Design) (u v colour : ℕ) (kept more : Set) (same : Agree (d .m) kept more) (bytes : List ℕ) (e : ℕ) (h : In (d .m) e) where
-  edge-line-longer : EdgeLine d kept (below kept) e bytes → EdgeLine (plus d u v colour) more (below more) e bytes
+module _ (d : Design) (given : Edge) (kept more : Set) (same : Agree (d .m) kept more) (bytes : List ℕ) (e : ℕ) (h : In (d .m) e) where
+  edge-line-longer : EdgeLine d kept (below kept) e bytes → EdgeLine (plus d given) more (below more) e bytes
   unfolding plus freedomAfter
   edge-line-longer (inl l) =
       let counts : count kept e ≡ count more e = count-eq kept more e (λ i hi. same i (omega arith)) in
@@ -61,7 +60,7 @@ module _ (d : Design) (u v colour : ℕ) (kept more : Set) (same : Agree (d .m) 
         record {
           circuit = c .circuit;
           is-circuit =
-              circuit-longer d u v colour (below more e) e h (λ t. absurd (omega (arith, h .high, below-lt more e (suc (d .m)) t))) (c .circuit)
+              circuit-longer d given (below more e) e h (λ t. absurd (omega (arith, h .high, below-lt more e (suc (d .m)) t))) (c .circuit)
               (circuit-agree d (below kept e) (below more e) e (c .circuit) (below-agree (d .m) kept more e same) (c .is-circuit));
           is-line = c .is-line;
         },
@@ -69,10 +68,10 @@ module _ (d : Design) (u v colour : ℕ) (kept more : Set) (same : Agree (d .m) 
 
 -- ---- just after the offer
 
-module _ (before after : Book) (grew : Grew before) (u v colour : ℕ) (list listed : List ℕ) (answer : Answer) (taken : Taken answer)
-    (o : Offer before after u v colour list listed answer) where
-  design : designOf after ≡ offered before u v colour
-  design = taken-design before after u v colour list listed answer grew taken o
+module _ (before after : Book) (grew : Grew before) (given : Edge) (list listed : List ℕ) (answer : Answer) (taken : Taken answer)
+    (o : Offer before after given list listed answer) where
+  design : designOf after ≡ offered before given
+  design = taken-design before after given list listed answer grew taken o
 
   count-after : after .count ≡ next before
   unfolding designOf plus
@@ -81,14 +80,14 @@ module _ (before after : Book) (grew : Grew before) (u v colour : ℕ) (list lis
   old-same : Agree (before .count) (keptOf before) (keptOf after)
   unfolding designOf
   old-same =
-      old-kept (designOf before) u v colour (keptOf before) (keptOf after) (grew .grown)
-      (taken-grown before after u v colour list listed answer grew taken o)
+      old-kept (designOf before) given (keptOf before) (keptOf after) (grew .grown)
+      (taken-grown before after given list listed answer grew taken o)
 
-  new-same : Is (keptOf after (next before)) ↔ Keeps (offered before u v colour) (keptOf before) (next before)
+  new-same : Is (keptOf after (next before)) ↔ Keeps (offered before given) (keptOf before) (next before)
   unfolding designOf
   new-same =
-      new-kept (designOf before) u v colour (keptOf before) (keptOf after) (grew .grown)
-      (taken-grown before after u v colour list listed answer grew taken o)
+      new-kept (designOf before) given (keptOf before) (keptOf after) (grew .grown)
+      (taken-grown before after given list listed answer grew taken o)
 
   -- those kept before the edge are the kept ones below it
   before-same : Agree (next before) (keptOf before) (below (keptOf after) (next before))
@@ -102,13 +101,13 @@ module _ (before after : Book) (grew : Grew before) (u v colour : ℕ) (list lis
       same-test _ _ (λ t. absurd (omega (arith, kept-most (designOf before) (forestOf before) i t)))
       (λ t. absurd (omega (arith, below-lt (keptOf after) (next before) i t))))
 
-module _ (before after : Book) (grew : Grew before) (u v colour : ℕ) (list listed : List ℕ) where
-  answer-line : (answer : Answer) → Taken answer → Offer before after u v colour list listed answer
+module _ (before after : Book) (grew : Grew before) (given : Edge) (list listed : List ℕ) where
+  answer-line : (answer : Answer) → Taken answer → Offer before after given list listed answer
       → EdgeLine (designOf after) (keptOf after) (below (keptOf after)) (next before) (answerLine after listed answer)
   unfolding designOf plus freedom freedomAfter
   answer-line (Kept c) taken o =
       inl (
-        new-same before after grew u v colour list listed (Kept c) tt o .1 (o .says .keeps),
+        new-same before after grew given list listed (Kept c) tt o .1 (o .says .keeps),
         ap (λ (z : ℕ). line key-kept (((after .a + after .b) * (after .n - 1) - count (keptOf after) z) ∷ [])) (o .adds .count),
       )
   answer-line (Implied c) taken o =
@@ -116,13 +115,13 @@ module _ (before after : Book) (grew : Grew before) (u v colour : ℕ) (list lis
       let e = next before in
       let wrote : take c listed ≡ s .circuit = ap (take c) (s .fills) ∙ take-at (s .circuit) (drop (length (s .circuit)) list) c (sym (s .number)) in
       inr (
-        λ t. s .implies (new-same before after grew u v colour list listed (Implied c) tt o .0 t),
+        λ t. s .implies (new-same before after grew given list listed (Implied c) tt o .0 t),
         record {
           circuit = s .circuit;
           is-circuit =
-              subst (λ (d : Design). Circuit d (below (keptOf after) e) e (s .circuit)) (sym (design before after grew u v colour list listed (Implied c) tt o))
-              (circuit-agree (offered before u v colour) (keptOf before) (below (keptOf after) e) e (s .circuit)
-              (before-same before after grew u v colour list listed (Implied c) tt o) (s .is-circuit));
+              subst (λ (d : Design). Circuit d (below (keptOf after) e) e (s .circuit)) (sym (design before after grew given list listed (Implied c) tt o))
+              (circuit-agree (offered before given) (keptOf before) (below (keptOf after) e) e (s .circuit)
+              (before-same before after grew given list listed (Implied c) tt o) (s .is-circuit));
           is-line = ap (line key-implied) wrote;
         },
       )
@@ -135,8 +134,8 @@ abbrev LineOfEdge : Book → ℕ → List ℕ → Type 0
 LineOfEdge B i bytes = EdgeLine (designOf B) (keptOf B) (below (keptOf B)) (suc i) bytes
 
 -- one line more: an earlier one stays, and the last is that of the answer
-module _ (before after : Book) (grew : Grew before) (u v colour : ℕ) (list listed : List ℕ) (answer : Answer) (taken : Taken answer)
-    (o : Offer before after u v colour list listed answer) (lines : List (List ℕ)) (so-many : length lines ≡ before .count) where
+module _ (before after : Book) (grew : Grew before) (given : Edge) (list listed : List ℕ) (answer : Answer) (taken : Taken answer)
+    (o : Offer before after given list listed answer) (lines : List (List ℕ)) (so-many : length lines ≡ before .count) where
   lines-more : ((i : ℕ) → i < before .count → LineOfEdge before i (getD lines i []))
       → (i : ℕ) → i < next before → LineOfEdge after i (getD (lines ++ answerLine after listed answer ∷ []) i [])
   unfolding designOf
@@ -147,12 +146,12 @@ module _ (before after : Book) (grew : Grew before) (u v colour : ℕ) (list lis
       let r : before .count ≡ i = omega arith in
       subst (λ (bytes : List ℕ). LineOfEdge after i bytes) (sym (getD-at lines (answerLine after listed answer) [] [] i q))
       (subst (λ (j : ℕ). LineOfEdge after j (answerLine after listed answer)) r
-      (answer-line before after grew u v colour list listed answer taken o)))
+      (answer-line before after grew given list listed answer taken o)))
       (λ earlier.
       subst (λ (bytes : List ℕ). LineOfEdge after i bytes) (sym (List·getD-append lines (answerLine after listed answer ∷ []) [] i (omega arith)))
       (subst (λ (d : Design). EdgeLine d (keptOf after) (below (keptOf after)) (suc i) (getD lines i []))
-      (sym (design before after grew u v colour list listed answer taken o))
-      (edge-line-longer (designOf before) u v colour (keptOf before) (keptOf after) (old-same before after grew u v colour list listed answer taken o)
+      (sym (design before after grew given list listed answer taken o))
+      (edge-line-longer (designOf before) given (keptOf before) (keptOf after) (old-same before after grew given list listed answer taken o)
       (getD lines i []) (suc i) (omega arith) (each i earlier))))
 
 -- the book has as many edges as there are lines, and its lines are those

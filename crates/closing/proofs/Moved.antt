@@ -10,14 +10,14 @@ use Rattle.rule.specs.declared.Book.{Book}
 use Rattle.rule.specs.declared.Answer.the-variants.{Kept}
 use Rattle.rule.specs.Sets.{Is, isnt, _=?_, In, count}
 use Rattle.rule.specs.Forests.{moved}
-use Rattle.rule.specs.Books.{designOf, forestOf, keptOf}
+use Rattle.rule.specs.Books.{Edge, designOf, forestOf, keptOf}
 use Rattle.rule.specs.Calls.{KeepsIt, Offer, Question}
 use Rattle.rule.proofs.Tests.{by-le, isnt-not, eq-is}
 use Rattle.rule.proofs.Counting.{count-mono}
 use Rattle.theory.proofs.Legal.Kept.{kept-make}
 
-module _ (B : Book) (u v colour : ℕ) where
-  differs-was-kept : (forest : ℕ → ℕ) (c : ℕ) → KeepsIt B u v colour forest c → (e : ℕ) → In (B .count) e → Is (isnt (forestOf B e =? forest e))
+module _ (B : Book) (given : Edge) where
+  differs-was-kept : (forest : ℕ → ℕ) (c : ℕ) → KeepsIt B given forest c → (e : ℕ) → In (B .count) e → Is (isnt (forestOf B e =? forest e))
       → Is (keptOf B e)
   unfolding designOf
   differs-was-kept forest c says e h t =
@@ -26,15 +26,15 @@ module _ (B : Book) (u v colour : ℕ) where
       by-le 1 (forest e) (λ l. absurd (omega (arith, says .earlier e h .0 l)))
       (λ still. absurd (isnt-not (forestOf B e =? forest e) t (eq-is _ _ (omega arith)))))
 
-  said-at-most-kept : (forest : ℕ → ℕ) (c : ℕ) → KeepsIt B u v colour forest c → c ≤ count (keptOf B) (B .count)
+  said-at-most-kept : (forest : ℕ → ℕ) (c : ℕ) → KeepsIt B given forest c → c ≤ count (keptOf B) (B .count)
   unfolding moved
   said-at-most-kept forest c says =
       subst (λ (z : ℕ). z ≤ count (keptOf B) (B .count)) (sym (says .moves))
       (count-mono (λ e. isnt (forestOf B e =? forest e)) (keptOf B) (B .count) (differs-was-kept forest c says))
 
-  pub moved-at-most-kept : (after : Book) (list listed : List ℕ) (c : ℕ) → Offer B after u v colour list listed (Kept c)
+  pub moved-at-most-kept : (after : Book) (list listed : List ℕ) (c : ℕ) → Offer B after given list listed (Kept c)
       → c ≤ count (keptOf B) (B .count)
   moved-at-most-kept after list listed c o = said-at-most-kept (forestOf after) c (o .says)
 
-  pub question-moved-at-most-kept : (list listed : List ℕ) (c : ℕ) → Question B u v colour list listed (Kept c) → c ≤ count (keptOf B) (B .count)
+  pub question-moved-at-most-kept : (list listed : List ℕ) (c : ℕ) → Question B given list listed (Kept c) → c ≤ count (keptOf B) (B .count)
   question-moved-at-most-kept list listed c q = said-at-most-kept (q .forest) c (q .says)

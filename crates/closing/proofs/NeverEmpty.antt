@@ -11,7 +11,7 @@ use lib.ListN.{length}
 use Rattle.rule.specs.declared.Book.{Book}
 use Rattle.rule.specs.declared.Answer.the-variants.{Implied}
 use Rattle.rule.specs.Sets.{In, _without_, numbers, at}
-use Rattle.rule.specs.Books.{designOf, keptOf, offered, plus, next, Sound}
+use Rattle.rule.specs.Books.{Edge, designOf, keptOf, offered, plus, next, Sound}
 use Rattle.rule.specs.Calls.{ImpliesIt, Offer, Question}
 use Rattle.rule.proofs.Tests.{put-same}
 use Rattle.rule.proofs.Determined.{circuit-determined}
@@ -22,32 +22,32 @@ use Rattle.theory.proofs.Theorems.{circuit-not-empty}
 use Rattle.placing.specs.Seek.{forestsFor}
 use Rattle.placing.proofs.Says.{offered-ends, offered-arranged, offered-last, offered-unplaced, found-says, stuck-is-circuit}
 
-module _ (B : Book) (u v colour : ℕ) (sound : Sound B) (hu : In (B .n) u) (hv : In (B .n) v) (different : u ≢ v) where
-  stuck-some : (w : Waiting) → search (offered B u v colour) (forestsFor B) (next B) ≡ going w
+module _ (B : Book) (given : Edge) (sound : Sound B) (hu : In (B .n) (given .one)) (hv : In (B .n) (given .other)) (different : (given .one) ≢ (given .other)) where
+  stuck-some : (w : Waiting) → search (offered B given) (forestsFor B) (next B) ≡ going w
       → 1 ≤ length (numbers (w .seen without next B) (next B))
   unfolding plus designOf
   stuck-some w q =
-      circuit-not-empty (offered B u v colour) (offered-ends B u v colour sound hu hv) (forestsFor B) (offered-arranged B u v colour sound hu hv)
-      (next B) (offered-last B u v colour sound hu hv) (offered-unplaced B u v colour sound hu hv) w q (sound-head B sound .profile .0 .low)
-      (λ same. different (sym (put-same (at (B .ones)) (next B) u) ∙ same ∙ put-same (at (B .others)) (next B) v))
+      circuit-not-empty (offered B given) (offered-ends B given sound hu hv) (forestsFor B) (offered-arranged B given sound hu hv)
+      (next B) (offered-last B given sound hu hv) (offered-unplaced B given sound hu hv) w q (sound-head B sound .profile .0 .low)
+      (λ same. different (sym (put-same (at (B .ones)) (next B) (given .one)) ∙ same ∙ put-same (at (B .others)) (next B) (given .other)))
 
-  said-some : (list listed : List ℕ) (n : ℕ) → ImpliesIt B u v colour list listed n → 1 ≤ n
-  said-some list listed n says = by-search (search (offered B u v colour) (forestsFor B) (next B)) refl
+  said-some : (list listed : List ℕ) (n : ℕ) → ImpliesIt B given list listed n → 1 ≤ n
+  said-some list listed n says = by-search (search (offered B given) (forestsFor B) (next B)) refl
     where
-      by-search : (r : Result) → search (offered B u v colour) (forestsFor B) (next B) ≡ r → 1 ≤ n
-      by-search (found p i w) q = absurd (says .implies (found-says B u v colour sound hu hv p i w q .keeps))
+      by-search : (r : Result) → search (offered B given) (forestsFor B) (next B) ≡ r → 1 ≤ n
+      by-search (found p i w) q = absurd (says .implies (found-says B given sound hu hv p i w q .keeps))
       by-search (going w) q =
-          let again = stuck-is-circuit B u v colour sound hu hv w q in
-          let same = circuit-determined (offered B u v colour) (keptOf B) (next B) again (says .is-circuit) in
+          let again = stuck-is-circuit B given sound hu hv w q in
+          let same = circuit-determined (offered B given) (keptOf B) (next B) again (says .is-circuit) in
           subst (λ (z : ℕ). 1 ≤ z) (ap length same ∙ sym (says .number)) (stuck-some w q)
 
-module _ (B : Book) (u v colour : ℕ) (list listed : List ℕ) (n : ℕ) where
-  pub circuit-never-empty : (after : Book) → Offer B after u v colour list listed (Implied n) → 1 ≤ n
+module _ (B : Book) (given : Edge) (list listed : List ℕ) (n : ℕ) where
+  pub circuit-never-empty : (after : Book) → Offer B after given list listed (Implied n) → 1 ≤ n
   circuit-never-empty after o =
       let c = o .checked in
-      said-some B u v colour (c .0) (c .1 .1 .0 .0) (c .1 .1 .0 .1) (c .1 .1 .1 .0) list listed n (o .says)
+      said-some B given (c .0) (c .1 .1 .0 .0) (c .1 .1 .0 .1) (c .1 .1 .1 .0) list listed n (o .says)
 
-  pub question-circuit-never-empty : Question B u v colour list listed (Implied n) → 1 ≤ n
+  pub question-circuit-never-empty : Question B given list listed (Implied n) → 1 ≤ n
   question-circuit-never-empty q =
       let c = q .checked in
-      said-some B u v colour (c .0) (c .1 .1 .0 .0) (c .1 .1 .0 .1) (c .1 .1 .1 .0) list listed n (q .says)
+      said-some B given (c .0) (c .1 .1 .0 .0) (c .1 .1 .0 .1) (c .1 .1 .1 .0) list listed n (q .says)

@@ -14,13 +14,12 @@ use Rattle.rule.specs.declared.Done.{Done}
 use Rattle.rule.specs.declared.Answer.{Answer}
 use Rattle.rule.specs.declared.Answer.the-variants.{Kept, Implied, Refused}
 use Rattle.rule.specs.Legal.{Design}
-use Rattle.rule.specs.Books.{designOf, plus}
+use Rattle.rule.specs.Books.{Edge, designOf, plus}
 use Rattle.rule.specs.Reasons.{Pass, offerChecks}
 use Rattle.rule.specs.Calls.{newBook, Open, Offer}
 use Rattle.rule.proofs.Determined.{pass-not-fail}
 use Rattle.theory.specs.Order.{Renumbered}
 use Rattle.theory.proofs.Laws.Reorder.{renumbered-same, renumbered-then, renumbered-plus, renumbered-swap}
-use Rattle.text.specs.Sheets.{Edge}
 use Rattle.pages.specs.Reads.{Offers, none, then, Reads}
 use Rattle.step.specs.Runs.{Taken, Run}
 use Rattle.step.specs.Runs.Run.{opened, offered}
@@ -34,7 +33,7 @@ use Rattle.closing.specs.Undo.{Came, begun, took, refused, Reordered}
 pub came-run : {a b n : ℕ} {edges : List Edge} {B : Book} → Came a b n edges B → Run B
 came-run {a} {b} {n} (begun o) = opened a b n o
 came-run (took e list listed answer came taken o) = offered (e .one) (e .other) (e .colour) list listed answer (came-run came) o
-came-run (refused u v colour list listed r came o) = offered u v colour list listed (Refused r) (came-run came) o
+came-run (refused given list listed r came o) = offered given list listed (Refused r) (came-run came) o
 
 -- the design with an edge more
 abbrev more : Design → Edge → Design
@@ -57,7 +56,7 @@ came-design {a} {b} {n} (took {edges} {before} {after} e list listed answer came
     taken-design before after (e .one) (e .other) (e .colour) list listed answer (run-grew (came-run came)) taken o
     ∙ ap (λ (d : Design). more d e) (came-design came)
     ∙ sym (with-last (designOf (newBook a b n)) edges e)
-came-design (refused u v colour list listed r came o) = ap designOf (o .1) ∙ came-design came
+came-design (refused given list listed r came o) = ap designOf (o .1) ∙ came-design came
 
 -- ---- another order
 
@@ -106,11 +105,11 @@ came-reordered {a} {b} {n} p q r =
 -- ---- a book that was read
 
 -- an offer that passed its checks was not refused
-pub passed-taken : (before after : Book) (u v colour : ℕ) (list listed : List ℕ) (answer : Answer) → Pass (offerChecks before u v colour list)
-    → Offer before after u v colour list listed answer → Taken answer
-passed-taken before after u v colour list listed (Kept n) pass o = tt
-passed-taken before after u v colour list listed (Implied n) pass o = tt
-passed-taken before after u v colour list listed (Refused r) pass o = pass-not-fail (offerChecks before u v colour list) r pass (o .0)
+pub passed-taken : (before after : Book) (given : Edge) (list listed : List ℕ) (answer : Answer) → Pass (offerChecks before given list)
+    → Offer before after given list listed answer → Taken answer
+passed-taken before after given list listed (Kept n) pass o = tt
+passed-taken before after given list listed (Implied n) pass o = tt
+passed-taken before after given list listed (Refused r) pass o = pass-not-fail (offerChecks before given list) r pass (o .0)
 
 offers-came : {a b n : ℕ} {first B : Book} {edges : List Edge} → Offers first edges B → Came a b n [] first → Came a b n edges B
 offers-came none c = c

@@ -63,8 +63,8 @@ five-never-in-text text f fault = faulty-in-text (fault .said) _ (f .reason) (fa
 -- ---- a question
 
 -- so a question is not refused for a full book
-pub question-never-six : (B : Book) (u v colour : ℕ) (list listed : List ℕ) (reason : Reason) → Question B u v colour list listed (Refused reason)
+pub question-never-six : (B : Book) (given : Edge) (list listed : List ℕ) (reason : Reason) → Question B given list listed (Refused reason)
     → numberOf reason ≢ 6
-question-never-six B u v colour list listed reason q =
-    fails-with (λ (number : ℕ). number ≢ 6) (questionChecks B u v colour list)
+question-never-six B given list listed reason q =
+    fails-with (λ (number : ℕ). number ≢ 6) (questionChecks B given list)
     ((λ e. omega arith), ((λ e. omega arith), ((λ e. omega arith), ((λ e. omega arith), ((λ e. omega arith), tt))))) reason (q .0)

@@ -11,7 +11,7 @@ use Rattle.rule.specs.declared.Answer.{Answer}
 use Rattle.rule.specs.declared.Answer.the-variants.{Kept, Implied, Refused}
 use Rattle.rule.specs.Sets.{count}
 use Rattle.rule.specs.Figures.{freedom}
-use Rattle.rule.specs.Books.{designOf, keptOf, Sound}
+use Rattle.rule.specs.Books.{Edge, designOf, keptOf, Sound}
 use Rattle.rule.specs.Calls.{Offer}
 use Rattle.rule.proofs.Legality.{legal-size}
 use Rattle.theory.proofs.Legal.Sound.{sound-head, sound-legal}
@@ -35,20 +35,20 @@ at-most-378 B sound =
 -- ---- after every call
 
 -- (A book of the program is `Full`: its arrays have 512 places.)
-pub offer-sound : (before after : Book) (u v colour : ℕ) (list listed : List ℕ) (answer : Answer) → Full before → Sound before
-    → Offer before after u v colour list listed answer → Sound after
-offer-sound before after u v colour list listed (Kept c) full sound o = kept-sound before after u v colour list listed c full o
-offer-sound before after u v colour list listed (Implied c) full sound o = implied-sound before after u v colour list listed c full o
-offer-sound before after u v colour list listed (Refused r) full sound o = subst Sound (sym (o .1)) sound
+pub offer-sound : (before after : Book) (given : Edge) (list listed : List ℕ) (answer : Answer) → Full before → Sound before
+    → Offer before after given list listed answer → Sound after
+offer-sound before after given list listed (Kept c) full sound o = kept-sound before after given list listed c full o
+offer-sound before after given list listed (Implied c) full sound o = implied-sound before after given list listed c full o
+offer-sound before after given list listed (Refused r) full sound o = subst Sound (sym (o .1)) sound
 
 -- freedom and the kept count
 abbrev AddsUp : Book → Type 0
 AddsUp B = freedom (designOf B) (keptOf B) + count (keptOf B) (B .count) ≡ (B .a + B .b) * (B .n - 1)
 
-pub offer-adds-up : (before after : Book) (u v colour : ℕ) (list listed : List ℕ) (answer : Answer) → Full before → Sound before
-    → Offer before after u v colour list listed answer → AddsUp after
-offer-adds-up before after u v colour list listed answer full sound o =
-    freedom-and-kept after (offer-sound before after u v colour list listed answer full sound o)
+pub offer-adds-up : (before after : Book) (given : Edge) (list listed : List ℕ) (answer : Answer) → Full before → Sound before
+    → Offer before after given list listed answer → AddsUp after
+offer-adds-up before after given list listed answer full sound o =
+    freedom-and-kept after (offer-sound before after given list listed answer full sound o)
 
 pub run-adds-up : {B : Book} → Run B → AddsUp B
 run-adds-up {B} run = freedom-and-kept B (run-grew run .sound)

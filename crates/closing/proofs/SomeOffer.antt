@@ -18,7 +18,7 @@ use Rattle.rule.specs.declared.Answer.the-variants.{Kept, Implied, Refused}
 use Rattle.rule.specs.Sets.{isnt, _=?_, In, put, at}
 use Rattle.rule.specs.Legal.{Design}
 use Rattle.rule.specs.Forests.{inForest, limit, Permitted, Arranged, moved}
-use Rattle.rule.specs.Books.{designOf, forestOf, offered, plus, next, capacity}
+use Rattle.rule.specs.Books.{Edge, designOf, forestOf, offered, plus, next, capacity}
 use Rattle.rule.specs.Reasons.{questionChecks}
 use Rattle.rule.specs.Calls.{Adds, OfferKept, OfferImplied, Offer, QuestionKept, QuestionImplied, Question}
 use Rattle.rule.proofs.Tests.{in-one, in-last, in-split, put-same, put-other}
@@ -71,7 +71,7 @@ arranged-agree d f g same arr =
 
 -- ---- the offer
 
-module _ (B : Book) (u v colour : ℕ) (list listed : List ℕ) where
+module _ (B : Book) (given : Edge) (list listed : List ℕ) where
   -- the book with the edge behind the others, and these forests
   abbrev added : List ℕ → Book
   added forests =
@@ -80,18 +80,18 @@ module _ (B : Book) (u v colour : ℕ) (list listed : List ℕ) where
         b = B .b;
         n = B .n;
         count = next B;
-        ones = set (B .ones) (B .count) u;
-        others = set (B .others) (B .count) v;
-        colours = set (B .colours) (B .count) colour;
+        ones = set (B .ones) (B .count) (given .one);
+        others = set (B .others) (B .count) (given .other);
+        colours = set (B .colours) (B .count) (given .colour);
         forests = forests;
       }
 
-  adds : (forests : List ℕ) → Adds B (added forests) u v colour
+  adds : (forests : List ℕ) → Adds B (added forests) given
   adds forests = record { a = refl; b = refl; n = refl; count = refl; ones = refl; others = refl; colours = refl }
 
   module _ (full : Full B) (less : B .count < capacity) where
-    kept-so : (c : ℕ) (q : QuestionKept B u v colour list listed c)
-        → OfferKept B (added (spread (q .forest) (next B) (B .forests))) u v colour list listed c
+    kept-so : (c : ℕ) (q : QuestionKept B given list listed c)
+        → OfferKept B (added (spread (q .forest) (next B) (B .forests))) given list listed c
     unfolding plus designOf moved
     kept-so c q =
         let forests = spread (q .forest) (next B) (B .forests) in
@@ -99,11 +99,11 @@ module _ (B : Book) (u v colour : ℕ) (list listed : List ℕ) where
         spread-at (q .forest) (next B) (B .forests) (omega (arith, full .forests)) in
         let s = q .says in
         record {
-          checked = pass-longer (six B u v colour list) (questionChecks B u v colour list) (q .checked) less;
+          checked = pass-longer (six B given list) (questionChecks B given list) (q .checked) less;
           says =
               record {
                 keeps = s .keeps;
-                arranged = arranged-agree (offered B u v colour) (q .forest) (at forests) same (s .arranged);
+                arranged = arranged-agree (offered B given) (q .forest) (at forests) same (s .arranged);
                 new = subst (λ (z : ℕ). 1 ≤ z) (same (next B) (in-last (B .count))) (s .new);
                 earlier = λ e h. subst (λ (z : ℕ). (1 ≤ z) ↔ (1 ≤ forestOf B e)) (same e (in-one (B .count) e h)) (s .earlier e h);
                 moves =
@@ -116,19 +116,19 @@ module _ (B : Book) (u v colour : ℕ) (list listed : List ℕ) where
           unwritten = q .unwritten;
         }
 
-    implied-so : (c : ℕ) → QuestionImplied B u v colour list listed c
-        → OfferImplied B (added (set (B .forests) (B .count) 0)) u v colour list listed c
+    implied-so : (c : ℕ) → QuestionImplied B given list listed c
+        → OfferImplied B (added (set (B .forests) (B .count) 0)) given list listed c
     implied-so c q =
         record {
-          checked = pass-longer (six B u v colour list) (questionChecks B u v colour list) (q .checked) less;
+          checked = pass-longer (six B given list) (questionChecks B given list) (q .checked) less;
           says = q .says;
           adds = adds (set (B .forests) (B .count) 0);
           forests = refl;
         }
 
     -- (A book of the program is `Full`: its arrays have 512 places.)
-    pub question-as-some-offer : (said : Answer) → Question B u v colour list listed said → (after : Book) × Offer B after u v colour list listed said
+    pub question-as-some-offer : (said : Answer) → Question B given list listed said → (after : Book) × Offer B after given list listed said
     question-as-some-offer (Kept c) q = (added (spread (q .forest) (next B) (B .forests)), kept-so c q)
     question-as-some-offer (Implied c) q = (added (set (B .forests) (B .count) 0), implied-so c q)
     question-as-some-offer (Refused r) q =
-        (B, (fail-longer (six B u v colour list) (questionChecks B u v colour list) r (q .0), refl, q .1))
+        (B, (fail-longer (six B given list) (questionChecks B given list) r (q .0), refl, q .1))

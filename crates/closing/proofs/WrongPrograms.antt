@@ -18,7 +18,7 @@ use Rattle.rule.specs.declared.Answer.the-variants.{Kept, Implied, Refused}
 use Rattle.rule.specs.Sets.{Is, _and_, _or_, isnt, _=?_, _<?_, _≤?_, Set, put, _with_, count, at}
 use Rattle.rule.specs.Legal.{Design, inside, Sparse, first-part, second-part, Legal, Keeps}
 use Rattle.rule.specs.Forests.{keptIn}
-use Rattle.rule.specs.Books.{designOf, forestOf, keptOf, plus, offered, next, Sound}
+use Rattle.rule.specs.Books.{Edge, designOf, forestOf, keptOf, plus, offered, next, Sound}
 use Rattle.rule.specs.Reasons.{Pass, offerChecks}
 use Rattle.rule.specs.Calls.{newBook, Offer}
 use Rattle.rule.proofs.Tests.{in-split, in-zero, with-self, with-old}
@@ -126,8 +126,8 @@ module _ (after : Book) (list listed : List ℕ) (long : 378 ≤ length list) wh
         apart (Refused r) k = k .0
 
 -- one that leaves the book as found after an offer, whatever the book and the edge
-pub not-as-found : (before after : Book) (u v colour : ℕ) (list listed : List ℕ) (answer : Answer) → Taken answer
-    → Offer before after u v colour list listed answer → after ≢ before
-not-as-found before after u v colour list listed (Kept c) taken o same = omega (arith, o .adds .count, ap (λ (B : Book). B .count) same)
-not-as-found before after u v colour list listed (Implied c) taken o same = omega (arith, o .adds .count, ap (λ (B : Book). B .count) same)
-not-as-found before after u v colour list listed (Refused r) taken o same = absurd taken
+pub not-as-found : (before after : Book) (given : Edge) (list listed : List ℕ) (answer : Answer) → Taken answer
+    → Offer before after given list listed answer → after ≢ before
+not-as-found before after given list listed (Kept c) taken o same = omega (arith, o .adds .count, ap (λ (B : Book). B .count) same)
+not-as-found before after given list listed (Implied c) taken o same = omega (arith, o .adds .count, ap (λ (B : Book). B .count) same)
+not-as-found before after given list listed (Refused r) taken o same = absurd taken

@@ -6,9 +6,8 @@ use Rattle.rule.specs.declared.Book.{Book}
 use Rattle.rule.specs.declared.Answer.{Answer}
 use Rattle.rule.specs.declared.Answer.the-variants.{Kept, Implied, Refused}
 use Rattle.rule.specs.Figures.{freedom}
-use Rattle.rule.specs.Books.{designOf, keptOf}
+use Rattle.rule.specs.Books.{Edge, designOf, keptOf}
 use Rattle.text.specs.Lines.{line}
-use Rattle.text.specs.Sheets.{Edge}
 use Rattle.pages.specs.Keys.{key-kept, key-implied}
 use Rattle.pages.specs.Reads.{Offers, none, then}
 

@@ -5,13 +5,13 @@
 use mathlib.Core.Path.{_≡_}
 use mathlib.Core.List.{List, [], _∷_, _++_, List·Permᴰ}
 use Prim.Native.Nat.{ℕ}
+use Rattle.rule.specs.Books.{Edge}
 use Rattle.rule.specs.declared.Book.{Book}
 use Rattle.rule.specs.declared.Reason.{Reason}
 use Rattle.rule.specs.declared.Done.{Done}
 use Rattle.rule.specs.declared.Answer.{Answer}
 use Rattle.rule.specs.declared.Answer.the-variants.{Kept, Implied, Refused}
 use Rattle.rule.specs.Calls.{Open, Offer}
-use Rattle.text.specs.Sheets.{Edge}
 use Rattle.step.specs.Runs.{Taken}
 
 -- ---- answers
@@ -47,9 +47,9 @@ Alike (Refused r) (Refused s) = r ≡ s
 pub data Came (a b n : ℕ) : List Edge → Book → Type 0 where
   begun : {B : Book} → Open a b n B Done.Fine → Came a b n [] B
   took : {edges : List Edge} {before after : Book} (e : Edge) (list listed : List ℕ) (answer : Answer) → Came a b n edges before → Taken answer
-      → Offer before after (e .one) (e .other) (e .colour) list listed answer → Came a b n (edges ++ e ∷ []) after
-  refused : {edges : List Edge} {before after : Book} (u v colour : ℕ) (list listed : List ℕ) (r : Reason) → Came a b n edges before
-      → Offer before after u v colour list listed (Refused r) → Came a b n edges after
+      → Offer before after e list listed answer → Came a b n (edges ++ e ∷ []) after
+  refused : {edges : List Edge} {before after : Book} (given : Edge) (list listed : List ℕ) (r : Reason) → Came a b n edges before
+      → Offer before after given list listed (Refused r) → Came a b n edges after
 
 -- ---- another order
 

@@ -73,10 +73,10 @@ module _ (B : Book) (e : ℕ) {root way edge : List ℕ} (l : Listable B e root 
   unfolding designOf
   found-holds path p f ended list listed n w =
       let s = asks in
-      let says = found-says B u v colour (s .sound) (s .one) (s .other) (ended .place) f (ended .waiting) (ended .is-found) in
+      let says = found-says B given (s .sound) (s .one) (s .other) (ended .place) f (ended .waiting) (ended .is-found) in
       filled-holds list listed (numbers (placed (B .forests)) (B .count)) n (omega (arith, w .counts)) (laid-first (w .laid))
       (subst (Circuit (designOf B) (keptOf B) e) (numbers-eq (keptOf B) (placed (B .forests)) (B .count) (kept-placed B))
-      (free-circuit (designOf B) u v colour e (l .place) (at-index (B .ones)) (at-index (B .others)) (ap (λ (z : ℕ). z =? 1) (at-index (B .colours)))
+      (free-circuit (designOf B) given e (l .place) (at-index (B .ones)) (at-index (B .others)) (ap (λ (z : ℕ). z =? 1) (at-index (B .colours)))
       (keptOf B) not-kept (says .keeps)))
 
   pub stuck-holds : (list listed : List ℕ) (n : ℕ)
@@ -84,7 +84,7 @@ module _ (B : Book) (e : ℕ) {root way edge : List ℕ} (l : Listable B e root 
   unfolding designOf
   stuck-holds list listed n fails =
       let s = asks in
-      let says = stuck-says B u v colour (s .sound) (s .one) (s .other) (fails .waiting) (fails .is-stuck) list listed (fails .fills) (fails .as-long) in
+      let says = stuck-says B given (s .sound) (s .one) (s .other) (fails .waiting) (fails .is-stuck) list listed (fails .fills) (fails .as-long) in
       filled-holds list listed (says .circuit) n (fails .counts ∙ says .number) (says .fills)
-      (twin-circuit (designOf B) u v colour e (l .place) (at-index (B .ones)) (at-index (B .others)) (ap (λ (z : ℕ). z =? 1) (at-index (B .colours)))
+      (twin-circuit (designOf B) given e (l .place) (at-index (B .ones)) (at-index (B .others)) (ap (λ (z : ℕ). z =? 1) (at-index (B .colours)))
       (keptOf B) not-kept none-past (says .circuit) (says .is-circuit))

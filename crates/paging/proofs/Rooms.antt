@@ -16,10 +16,10 @@ use Rattle.rule.specs.declared.Book.{Book}
 use Rattle.rule.specs.Sets.{Set, at}
 use Rattle.rule.specs.Legal.{Design}
 use Rattle.rule.specs.Figures.{Groups}
-use Rattle.rule.specs.Books.{designOf, keptOf, Sound}
+use Rattle.rule.specs.Books.{Edge, designOf, keptOf, Sound}
 use Rattle.theory.proofs.Legal.Sound.{sound-head, sound-edge}
 use Rattle.text.specs.Lines.{comma, numeral, listed, line}
-use Rattle.text.specs.Sheets.{Edge, keyOf, edgeText}
+use Rattle.text.specs.Sheets.{keyOf, edgeText}
 use Rattle.text.proofs.Sizes.{line-length, edge-length}
 use Rattle.lines.proofs.Sizes.{Numbers, numeral-at-most-20, line-not-empty, number-line-at-most, line-at-most}
 use Rattle.pages.specs.declared.Received.{Received}

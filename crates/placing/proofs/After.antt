@@ -9,27 +9,27 @@ use Rattle.rule.specs.declared.Book.{Book}
 use Rattle.rule.specs.Sets.{_=?_, Set, In, put, at}
 use Rattle.rule.specs.Legal.{Design}
 use Rattle.rule.specs.Forests.{Arranged}
-use Rattle.rule.specs.Books.{designOf, forestOf, offered, plus, next, ProfileRange, BodiesRange, ColourRange, Sound}
+use Rattle.rule.specs.Books.{Edge, designOf, forestOf, offered, plus, next, ProfileRange, BodiesRange, ColourRange, Sound}
 use Rattle.rule.specs.Calls.{Adds}
 use Rattle.rule.proofs.Tests.{in-split, put-same, put-other, put-map}
 use Rattle.rule.proofs.Places.{at-set}
 use Rattle.placing.specs.Take.{Full}
 use Rattle.theory.proofs.Legal.Sound.{sound-head, sound-edge, EndsAndColour, arranged-sound}
 
-module _ (before after : Book) (u v colour : ℕ) (adds : Adds before after u v colour) (full : Full before) (room : before .count < 512) where
-  pub one-after : at (after .ones) ≡ put (at (before .ones)) (next before) u
-  one-after = ap at (adds .ones) ∙ at-set (before .ones) (before .count) u (omega (arith, full .ones))
+module _ (before after : Book) (given : Edge) (adds : Adds before after given) (full : Full before) (room : before .count < 512) where
+  pub one-after : at (after .ones) ≡ put (at (before .ones)) (next before) (given .one)
+  one-after = ap at (adds .ones) ∙ at-set (before .ones) (before .count) (given .one) (omega (arith, full .ones))
 
-  pub other-after : at (after .others) ≡ put (at (before .others)) (next before) v
-  other-after = ap at (adds .others) ∙ at-set (before .others) (before .count) v (omega (arith, full .others))
+  pub other-after : at (after .others) ≡ put (at (before .others)) (next before) (given .other)
+  other-after = ap at (adds .others) ∙ at-set (before .others) (before .count) (given .other) (omega (arith, full .others))
 
-  colour-after : at (after .colours) ≡ put (at (before .colours)) (next before) colour
-  colour-after = ap at (adds .colours) ∙ at-set (before .colours) (before .count) colour (omega (arith, full .colours))
+  colour-after : at (after .colours) ≡ put (at (before .colours)) (next before) (given .colour)
+  colour-after = ap at (adds .colours) ∙ at-set (before .colours) (before .count) (given .colour) (omega (arith, full .colours))
 
-  red-after : (λ e. at (after .colours) e =? 1) ≡ put (λ e. at (before .colours) e =? 1) (next before) (colour =? 1)
-  red-after = ap {B = Set} (λ (f : ℕ → ℕ). λ e. f e =? 1) colour-after ∙ put-map (λ c. c =? 1) (at (before .colours)) (next before) colour
+  red-after : (λ e. at (after .colours) e =? 1) ≡ put (λ e. at (before .colours) e =? 1) (next before) (given .colour =? 1)
+  red-after = ap {B = Set} (λ (f : ℕ → ℕ). λ e. f e =? 1) colour-after ∙ put-map (λ c. c =? 1) (at (before .colours)) (next before) (given .colour)
 
-  pub design-after : designOf after ≡ offered before u v colour
+  pub design-after : designOf after ≡ offered before given
   unfolding designOf plus
   design-after =
       λ i.
@@ -45,7 +45,7 @@ module _ (before after : Book) (u v colour : ℕ) (adds : Adds before after u v 
 
   -- ---- it is sound
 
-  ends-after : Sound before → In (before .n) u → In (before .n) v → u ≢ v → ColourRange colour → (e : ℕ) → In (after .count) e → EndsAndColour after e
+  ends-after : Sound before → In (before .n) (given .one) → In (before .n) (given .other) → (given .one) ≢ (given .other) → ColourRange (given .colour) → (e : ℕ) → In (after .count) e → EndsAndColour after e
   ends-after sound hu hv ne c e h =
       in-split (before .count) e (subst (λ (z : ℕ). In z e) (adds .count) h) old
       (λ q. subst (EndsAndColour after) (sym q) new)
@@ -78,8 +78,8 @@ module _ (before after : Book) (u v colour : ℕ) (adds : Adds before after u v 
             colour = subst ColourRange (at-old _ _ _ colour-after r) (k .colour);
           }
 
-  pub sound-after : Sound before → In (before .n) u → In (before .n) v → u ≢ v → ColourRange colour
-      → Arranged (offered before u v colour) (forestOf after) → Sound after
+  pub sound-after : Sound before → In (before .n) (given .one) → In (before .n) (given .other) → (given .one) ≢ (given .other) → ColourRange (given .colour)
+      → Arranged (offered before given) (forestOf after) → Sound after
   sound-after sound hu hv ne c arr =
       let head = sound-head before sound in
       arranged-sound after

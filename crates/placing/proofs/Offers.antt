@@ -9,7 +9,7 @@ use Rattle.rule.specs.declared.Book.{Book}
 use Rattle.rule.specs.Sets.{In, put, at}
 use Rattle.rule.specs.Legal.{Design, Grown}
 use Rattle.rule.specs.Forests.{Arranged}
-use Rattle.rule.specs.Books.{designOf, forestOf, keptOf, offered, next, Sound, GrownBook}
+use Rattle.rule.specs.Books.{Edge, designOf, forestOf, keptOf, offered, next, Sound, GrownBook}
 use Rattle.rule.specs.Calls.{OfferKept, OfferImplied}
 use Rattle.rule.proofs.Tests.{same-test, put-same, put-other}
 use Rattle.rule.proofs.Counting.{Agree}
@@ -21,17 +21,17 @@ use Rattle.theory.proofs.Groups.Longer.{arranged-longer}
 use Rattle.placing.proofs.After.{design-after, sound-after}
 use Rattle.placing.specs.Take.{Full}
 
-module _ (before after : Book) (u v colour : ℕ) (list listed : List ℕ) (count : ℕ) (full : Full before) where
+module _ (before after : Book) (given : Edge) (list listed : List ℕ) (count : ℕ) (full : Full before) where
   -- ---- the edge is kept
 
-  module _ (o : OfferKept before after u v colour list listed count) where
+  module _ (o : OfferKept before after given list listed count) where
     less : before .count < 512
     less = o .checked .1 .1 .1 .1 .1 .0
 
     pub kept-sound : Sound after
     kept-sound =
         let c = o .checked in
-        sound-after before after u v colour (o .adds) full less (c .0) (c .1 .1 .0 .0) (c .1 .1 .0 .1) (c .1 .1 .1 .0) (c .1 .0) (o .says .arranged)
+        sound-after before after given (o .adds) full less (c .0) (c .1 .1 .0 .0) (c .1 .1 .0 .1) (c .1 .1 .1 .0) (c .1 .0) (o .says .arranged)
 
     -- no offer makes a kept edge implied, nor an implied one kept
     kept-same : Agree (before .count) (keptOf before) (keptOf after)
@@ -44,13 +44,13 @@ module _ (before after : Book) (u v colour : ℕ) (list listed : List ℕ) (coun
     pub kept-grown : GrownBook before → GrownBook after
     unfolding designOf
     kept-grown g =
-        subst (λ (d : Design). Grown d (keptOf after)) (sym (design-after before after u v colour (o .adds) full less))
-        (grown-longer (designOf before) u v colour (keptOf before) (keptOf after) g kept-same
+        subst (λ (d : Design). Grown d (keptOf after)) (sym (design-after before after given (o .adds) full less))
+        (grown-longer (designOf before) given (keptOf before) (keptOf after) g kept-same
         ((λ _. o .says .keeps), (λ _. kept-make (designOf after) (forestOf after) (next before) (omega (arith, o .adds .count)) (o .says .new))))
 
   -- ---- the edge is implied
 
-  module _ (o : OfferImplied before after u v colour list listed count) where
+  module _ (o : OfferImplied before after given list listed count) where
     room : before .count < 512
     room = o .checked .1 .1 .1 .1 .1 .0
 
@@ -67,9 +67,9 @@ module _ (before after : Book) (u v colour : ℕ) (list listed : List ℕ) (coun
     unfolding designOf
     implied-sound =
         let c = o .checked in
-        sound-after before after u v colour (o .adds) full room (c .0) (c .1 .1 .0 .0) (c .1 .1 .0 .1) (c .1 .1 .1 .0) (c .1 .0)
-        (subst (Arranged (offered before u v colour)) (sym forests-after)
-        (arranged-longer (designOf before) u v colour (forestOf before) (sound-arranged before (c .0))))
+        sound-after before after given (o .adds) full room (c .0) (c .1 .1 .0 .0) (c .1 .1 .0 .1) (c .1 .1 .1 .0) (c .1 .0)
+        (subst (Arranged (offered before given)) (sym forests-after)
+        (arranged-longer (designOf before) given (forestOf before) (sound-arranged before (c .0))))
 
     implied-same : Agree (before .count) (keptOf before) (keptOf after)
     unfolding designOf
@@ -83,8 +83,8 @@ module _ (before after : Book) (u v colour : ℕ) (list listed : List ℕ) (coun
     pub implied-grown : GrownBook before → GrownBook after
     unfolding designOf
     implied-grown g =
-        subst (λ (d : Design). Grown d (keptOf after)) (sym (design-after before after u v colour (o .adds) full room))
-        (grown-longer (designOf before) u v colour (keptOf before) (keptOf after) g implied-same (
+        subst (λ (d : Design). Grown d (keptOf after)) (sym (design-after before after given (o .adds) full room))
+        (grown-longer (designOf before) given (keptOf before) (keptOf after) g implied-same (
           (λ t. absurd (omega (arith, new-forest, kept-has (designOf after) (forestOf after) (next before) t))),
           (λ p. absurd (o .says .implies p)),
         ))

@@ -13,7 +13,7 @@ use Rattle.rule.specs.declared.Book.{Book}
 use Rattle.rule.specs.Sets.{isnt, _=?_, Set, In, _without_, numbers}
 use Rattle.rule.specs.Legal.{Design, Ends, Keeps, Implies, Circuit}
 use Rattle.rule.specs.Forests.{Arranged, moved}
-use Rattle.rule.specs.Books.{designOf, forestOf, keptOf, offered, plus, next, Sound}
+use Rattle.rule.specs.Books.{Edge, designOf, forestOf, keptOf, offered, plus, next, Sound}
 use Rattle.rule.specs.Calls.{KeepsIt, ImpliesIt, Filled}
 use Rattle.rule.proofs.Counting.{count-eq}
 use Rattle.theory.specs.Exchange.{Each, Distinct, end, Free, shifted}
@@ -38,36 +38,36 @@ distinct-away : (x : ℕ) (l : List ℕ) → Distinct x l → Each (λ z. z ≢ 
 distinct-away x [] h = tt
 distinct-away x (z ∷ l) h = h .0
 
-module _ (B : Book) (u v colour : ℕ) (sound : Sound B) (hu : In (B .n) u) (hv : In (B .n) v) where
+module _ (B : Book) (given : Edge) (sound : Sound B) (hu : In (B .n) (given .one)) (hv : In (B .n) (given .other)) where
   abbrev d : Design
-  d = offered B u v colour
+  d = offered B given
 
   abbrev phi : ℕ → ℕ
   phi = forestsFor B
 
-  pub offered-ends : Ends (offered B u v colour)
+  pub offered-ends : Ends (offered B given)
   unfolding designOf
-  offered-ends = plus-ends (designOf B) u v colour (sound-ends B sound) hu hv
+  offered-ends = plus-ends (designOf B) given (sound-ends B sound) hu hv
 
-  pub offered-arranged : Arranged (offered B u v colour) (forestsFor B)
+  pub offered-arranged : Arranged (offered B given) (forestsFor B)
   unfolding designOf
-  offered-arranged = arranged-longer (designOf B) u v colour (forestOf B) (sound-arranged B sound)
+  offered-arranged = arranged-longer (designOf B) given (forestOf B) (sound-arranged B sound)
 
-  pub offered-last : In (offered B u v colour .m) (next B)
+  pub offered-last : In (offered B given .m) (next B)
   unfolding plus designOf
   offered-last = omega arith
 
   pub offered-unplaced : forestsFor B (next B) ≡ 0
   unfolding designOf
-  offered-unplaced = phi-new (designOf B) u v colour (forestOf B)
+  offered-unplaced = phi-new (designOf B) given (forestOf B)
 
   -- ---- the search ended
 
-  module _ (p i : ℕ) (w : Waiting) (q : search (offered B u v colour) (forestsFor B) (next B) ≡ found p i w) where
-    pub start : Start (offered B u v colour) (forestsFor B) (next B) (pathTo w p)
+  module _ (p i : ℕ) (w : Waiting) (q : search (offered B given) (forestsFor B) (next B) ≡ found p i w) where
+    pub start : Start (offered B given) (forestsFor B) (next B) (pathTo w p)
     start = found-start d offered-ends phi offered-arranged (next B) offered-last offered-unplaced p i w q
 
-    pub free : Free (offered B u v colour) (forestsFor B) (end (next B) (pathTo w p)) i
+    pub free : Free (offered B given) (forestsFor B) (end (next B) (pathTo w p)) i
     free = found-free d offered-ends phi offered-arranged (next B) offered-last offered-unplaced p i w q
 
     after : ℕ → ℕ
@@ -81,39 +81,39 @@ module _ (B : Book) (u v colour : ℕ) (sound : Sound B) (hu : In (B .n) u) (hv 
     unfolding moved designOf
     moves =
         sym (shift-moves d phi (next B) (pathTo w p) i (B .count) start free old-path (omega arith))
-        ∙ count-eq _ _ (B .count) (λ e h. ap (λ (z : ℕ). isnt (z =? shifted (forestsFor B) (next B ∷ pathTo w p) i e)) (phi-old (designOf B) u v colour (forestOf B) e h))
+        ∙ count-eq _ _ (B .count) (λ e h. ap (λ (z : ℕ). isnt (z =? shifted (forestsFor B) (next B ∷ pathTo w p) i e)) (phi-old (designOf B) given (forestOf B) e h))
 
-    pub found-says : KeepsIt B u v colour (shifted (forestsFor B) (next B ∷ pathTo w p) i) (length (pathTo w p))
+    pub found-says : KeepsIt B given (shifted (forestsFor B) (next B ∷ pathTo w p) i) (length (pathTo w p))
     unfolding designOf
     found-says =
         record {
-          keeps = subst (λ (s : Set). Keeps d s (next B)) (kept-longer (designOf B) u v colour (forestOf B)) (found-kept d offered-ends phi offered-arranged (next B) offered-last offered-unplaced p i w q);
+          keeps = subst (λ (s : Set). Keeps d s (next B)) (kept-longer (designOf B) given (forestOf B)) (found-kept d offered-ends phi offered-arranged (next B) offered-last offered-unplaced p i w q);
           arranged = found-arranged d offered-ends phi offered-arranged (next B) offered-last offered-unplaced p i w q;
           new = shift-new d phi (next B) (pathTo w p) start offered-arranged i (free .allowed .low);
           earlier =
               λ e h.
-              subst (λ (z : ℕ). (1 ≤ shifted phi (next B ∷ pathTo w p) i e) ↔ (1 ≤ z)) (phi-old (designOf B) u v colour (forestOf B) e h)
+              subst (λ (z : ℕ). (1 ≤ shifted phi (next B ∷ pathTo w p) i e) ↔ (1 ≤ z)) (phi-old (designOf B) given (forestOf B) e h)
               (shift-kept d phi (next B) (pathTo w p) start offered-arranged i e (free .allowed .low) (omega arith));
           moves = moves;
         }
 
   -- ---- it did not
 
-  module _ (w : Waiting) (q : search (offered B u v colour) (forestsFor B) (next B) ≡ going w) where
+  module _ (w : Waiting) (q : search (offered B given) (forestsFor B) (next B) ≡ going w) where
     -- what was reached is its circuit
-    pub stuck-is-circuit : Circuit (offered B u v colour) (keptOf B) (next B) (numbers (w .seen without next B) (next B))
+    pub stuck-is-circuit : Circuit (offered B given) (keptOf B) (next B) (numbers (w .seen without next B) (next B))
     unfolding plus designOf
     stuck-is-circuit =
-        subst (λ (s : Set). Circuit d s (next B) (numbers (w .seen without next B) (next B))) (kept-longer (designOf B) u v colour (forestOf B))
+        subst (λ (s : Set). Circuit d s (next B) (numbers (w .seen without next B) (next B))) (kept-longer (designOf B) given (forestOf B))
         (circuit-list d offered-ends phi offered-arranged (next B) offered-last offered-unplaced w q)
 
     pub stuck-says : (list listed : List ℕ) → Filled (numbers (w .seen without next B) (next B)) list listed → length listed ≡ length list
-        → ImpliesIt B u v colour list listed (length (numbers (w .seen without next B) (next B)))
+        → ImpliesIt B given list listed (length (numbers (w .seen without next B) (next B)))
     unfolding plus designOf
     stuck-says list listed fills long =
         record {
           implies =
-              subst (λ (s : Set). Implies d s (next B)) (kept-longer (designOf B) u v colour (forestOf B))
+              subst (λ (s : Set). Implies d s (next B)) (kept-longer (designOf B) given (forestOf B))
               (stuck-implied d offered-ends phi offered-arranged (next B) offered-last offered-unplaced w q);
           circuit = numbers (w .seen without next B) (next B);
           is-circuit = stuck-is-circuit;

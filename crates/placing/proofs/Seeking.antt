@@ -12,7 +12,7 @@ use lib.Seq.{take-suc, take-at}
 use Rattle.rule.specs.declared.Book.{Book}
 use Rattle.rule.specs.Sets.{In, at}
 use Rattle.rule.specs.Legal.{Design}
-use Rattle.rule.specs.Books.{designOf, forestOf, offered, plus, next}
+use Rattle.rule.specs.Books.{Edge, theEdge, designOf, forestOf, offered, plus, next}
 use Rattle.theory.specs.Search.{edgeAt, search, pathTo}
 use Rattle.theory.specs.Search.Result.{found, going}
 use Rattle.theory.proofs.Laws.Plus.{plus-one, plus-other, plus-red, new-one, new-other, new-red}
@@ -25,7 +25,7 @@ use Rattle.theory.proofs.Search.Stages.{Ended, Turned, search-ends}
 use Rattle.tables.proofs.Longer.{tabled-longer}
 use Rattle.search.specs.declared.Outcome.{Outcome}
 use Rattle.reaching.specs.Setting.{Setting, Holds}
-use Rattle.search.specs.Given.{Edge, Given, Sought}
+use Rattle.search.specs.Given.{IsEdge, Given, Sought}
 use Rattle.reaching.specs.Trying.{Comes}
 use Rattle.search.specs.Answers.{Answers, Searched}
 use Rattle.search.specs.Ends.{Led, Traced, Queued, Listed}
@@ -47,9 +47,9 @@ backward-reverse path (suc n) h =
 pub backward-front : (path l : List ℕ) (n : ℕ) → n ≤ length path → take n path ≡ reverse l → backward path n ≡ l
 backward-front path l n h q = backward-reverse path n h ∙ ap reverse q ∙ reverse-reverse l
 
-module _ (B : Book) (u v colour : ℕ) {root way edge : List ℕ} (s : Seekable B u v root way edge) where
+module _ (B : Book) (given : Edge) {root way edge : List ℕ} (s : Seekable B (given .one) (given .other) root way edge) where
   abbrev d : Design
-  d = offered B u v colour
+  d = offered B given
 
   -- ---- what the search is given
 
@@ -62,34 +62,34 @@ module _ (B : Book) (u v colour : ℕ) {root way edge : List ℕ} (s : Seekable 
   body : (x : ℕ) → In (B .n) x → In 64 x
   body x h = record { low = h .low; high = omega (arith, h .high, sound-head B (s .sound) .bodies .high) }
 
-  setting : Setting (offered B u v colour) (forestsFor B) root way (s .who) edge (s .size)
+  setting : Setting (offered B given) (forestsFor B) root way (s .who) edge (s .size)
   unfolding plus designOf
   setting =
-      let ends = offered-ends B u v colour (s .sound) (s .one) (s .other) in
+      let ends = offered-ends B given (s .sound) (s .one) (s .other) in
       record {
         edges = omega (arith, few-edges);
         forests = few-forests;
         one = λ e h. body _ (ends .one e h);
         other = λ e h. body _ (ends .other e h);
-        tabled = tabled-longer (designOf B) u v colour (forestOf B) root way (s .who) edge (s .size) (s .tabled);
+        tabled = tabled-longer (designOf B) given (forestOf B) root way (s .who) edge (s .size) (s .tabled);
       }
 
   old-edge : (e : ℕ) → In (B .count) e
-      → Edge (offered B u v colour) (forestsFor B) e (at (B .ones) e) (at (B .others) e) (at (B .colours) e) (at (B .forests) e)
+      → IsEdge (offered B given) (forestsFor B) e (theEdge (at (B .ones) e) (at (B .others) e) (at (B .colours) e)) (at (B .forests) e)
   unfolding designOf
   old-edge e h =
       record {
-        one = plus-one (designOf B) u v colour e (omega arith);
-        other = plus-other (designOf B) u v colour e (omega arith);
-        red = plus-red (designOf B) u v colour e (omega arith);
-        stands = phi-old (designOf B) u v colour (forestOf B) e h;
+        one = plus-one (designOf B) given e (omega arith);
+        other = plus-other (designOf B) given e (omega arith);
+        red = plus-red (designOf B) given e (omega arith);
+        stands = phi-old (designOf B) given (forestOf B) e h;
       }
 
-  given : Given (B .a) (B .a + B .b) (B .ones) (B .others) (B .colours) (B .forests) root way edge
+  is-given : Given (B .a) (B .a + B .b) (B .ones) (B .others) (B .colours) (B .forests) root way edge
   unfolding plus designOf
-  given =
+  is-given =
       record {
-        d = offered B u v colour;
+        d = offered B given;
         forest = forestsFor B;
         who = s .who;
         size = s .size;
@@ -100,47 +100,47 @@ module _ (B : Book) (u v colour : ℕ) {root way edge : List ℕ} (s : Seekable 
       }
 
   pub sought : (number : ℕ) → number ≡ suc (B .count)
-      → Sought (B .a) (B .a + B .b) u v colour number (B .ones) (B .others) (B .colours) (B .forests) root way edge
-  unfolding given plus designOf
+      → Sought (B .a) (B .a + B .b) given number (B .ones) (B .others) (B .colours) (B .forests) root way edge
+  unfolding is-given plus designOf
   sought number q =
       record {
-        given = given;
+        given = is-given;
         last = sym q;
         new =
-            subst (λ (e : ℕ). Edge (offered B u v colour) (forestsFor B) e u v colour 0) (sym q)
+            subst (λ (e : ℕ). IsEdge (offered B given) (forestsFor B) e given 0) (sym q)
             (record {
-              one = new-one (designOf B) u v colour;
-              other = new-other (designOf B) u v colour;
-              red = new-red (designOf B) u v colour;
-              stands = phi-new (designOf B) u v colour (forestOf B);
+              one = new-one (designOf B) given;
+              other = new-other (designOf B) given;
+              red = new-red (designOf B) given;
+              stands = phi-new (designOf B) given (forestOf B);
             });
       }
 
   -- what the search has come to, of the offered edge
   pub searched : (number : ℕ) (q : number ≡ suc (B .count)) (queue from : List ℕ) (o : Outcome) → Searched (sought number q .given) queue from o
-      → Answers (λ w. Holds w queue from) (search (offered B u v colour) (forestsFor B) (next B)) o
-  unfolding sought given plus designOf
+      → Answers (λ w. Holds w queue from) (search (offered B given) (forestsFor B) (next B)) o
+  unfolding sought is-given plus designOf
   searched number q queue from o r = r
 
-  last-edge : In (offered B u v colour .m) (next B)
-  last-edge = offered-last B u v colour (s .sound) (s .one) (s .other)
+  last-edge : In (offered B given .m) (next B)
+  last-edge = offered-last B given (s .sound) (s .one) (s .other)
 
   -- ---- it ended
 
-  module _ (p f : ℕ) (queue from : List ℕ) (r : Comes (λ w. Holds w queue from) (found p f) (search (offered B u v colour) (forestsFor B) (next B))) where
-    pub ended : Ended (offered B u v colour) (forestsFor B) (next B) p f (r .waiting)
+  module _ (p f : ℕ) (queue from : List ℕ) (r : Comes (λ w. Holds w queue from) (found p f) (search (offered B given) (forestsFor B) (next B))) where
+    pub ended : Ended (offered B given) (forestsFor B) (next B) p f (r .waiting)
     ended =
-        subst (Turned (offered B u v colour) (forestsFor B) (next B) (d .m)) (r .is)
-        (search-ends (offered B u v colour) (forestsFor B) (next B) last-edge)
+        subst (Turned (offered B given) (forestsFor B) (next B) (d .m)) (r .is)
+        (search-ends (offered B given) (forestsFor B) (next B) last-edge)
 
     abbrev pub led : Led p queue from
     led = record { w = r .waiting; holds = r .holds; here = ended .waits; earlier = ended .reached .earlier }
 
     pub small-forest : f < 256
-    small-forest = omega (arith, ended .free .allowed .high, limit-most (offered B u v colour) (edgeAt (r .waiting) p), setting .forests)
+    small-forest = omega (arith, ended .free .allowed .high, limit-most (offered B given) (edgeAt (r .waiting) p), setting .forests)
 
     pub ends-there : (path path′ : List ℕ) (n : ℕ) → length path ≡ 379 → Traced (r .waiting) p path path′ n
-        → Ends B u v colour path′ n f × (length path′ ≡ 379)
+        → Ends B given path′ n f × (length path′ ≡ 379)
     ends-there path path′ n long t =
         let back = reverse (pathTo (r .waiting) p) in
         let as-many : length back ≡ n = length-reverse (pathTo (r .waiting) p) ∙ sym (t .counts) in
@@ -161,18 +161,18 @@ module _ (B : Book) (u v colour : ℕ) {root way edge : List ℕ} (s : Seekable 
   -- ---- it did not
 
   module _ (n : ℕ) (queue from : List ℕ)
-      (r : Comes (λ w. (n ≡ length (w .queue)) × Holds w queue from) going (search (offered B u v colour) (forestsFor B) (next B))) where
-    pub stuck : Reached (offered B u v colour) (forestsFor B) (next B) (r .waiting)
+      (r : Comes (λ w. (n ≡ length (w .queue)) × Holds w queue from) going (search (offered B given) (forestsFor B) (next B))) where
+    pub stuck : Reached (offered B given) (forestsFor B) (next B) (r .waiting)
     stuck =
-        stuck-reached (offered B u v colour) (offered-ends B u v colour (s .sound) (s .one) (s .other)) (forestsFor B)
-        (offered-arranged B u v colour (s .sound) (s .one) (s .other)) (next B) last-edge
-        (offered-unplaced B u v colour (s .sound) (s .one) (s .other)) (r .waiting) (r .is)
+        stuck-reached (offered B given) (offered-ends B given (s .sound) (s .one) (s .other)) (forestsFor B)
+        (offered-arranged B given (s .sound) (s .one) (s .other)) (next B) last-edge
+        (offered-unplaced B given (s .sound) (s .one) (s .other)) (r .waiting) (r .is)
 
     pub waits : Queued n queue
     unfolding plus designOf
     waits =
         record {
-          d = offered B u v colour;
+          d = offered B given;
           forest = forestsFor B;
           w = r .waiting;
           edges = omega (arith, few-edges);
@@ -183,7 +183,7 @@ module _ (B : Book) (u v colour : ℕ) {root way edge : List ℕ} (s : Seekable 
         }
 
     pub fails-there : (list listed : List ℕ) (len : ℕ) → length listed ≡ length list → Listed (waits .w) (waits .d .m) n list listed len
-        → Fails B u v colour list listed len × (len < 65536)
+        → Fails B given list listed len × (len < 65536)
     unfolding waits plus designOf
     fails-there list listed len long l = (
       record { waiting = r .waiting; is-stuck = r .is; fills = l .in-order; counts = l .counts; as-long = long },

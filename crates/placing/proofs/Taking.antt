@@ -13,7 +13,7 @@ use Rattle.rule.specs.declared.Answer.the-variants.{Kept, Implied}
 use Rattle.rule.specs.Sets.{In, at}
 use Rattle.rule.specs.Legal.{Design}
 use Rattle.rule.specs.Forests.{Arranged}
-use Rattle.rule.specs.Books.{designOf, forestOf, offered, plus, next, Sound}
+use Rattle.rule.specs.Books.{Edge, designOf, forestOf, offered, plus, next, Sound}
 use Rattle.rule.specs.Calls.{Adds, KeepsIt, ImpliesIt}
 use Rattle.rule.proofs.Tests.{put-other}
 use Rattle.rule.proofs.Places.{at-suc, at-set}
@@ -45,24 +45,24 @@ same-past l l′ n long f =
     ext-getD 0 (drop n l) (drop n l′) (length-drop n l ∙ ap (λ (z : ℕ). z - n) long ∙ sym (length-drop n l′))
     (λ i _. getD-drop n l i 0 ∙ sym (at-suc l (n + i)) ∙ f (suc (n + i)) (omega arith) ∙ at-suc l′ (n + i) ∙ sym (getD-drop n l′ i 0))
 
-module _ (B : Book) (u v colour : ℕ) {list root way who edge size : List ℕ} (t : Takeable B u v colour list root way who edge size) where
+module _ (B : Book) (given : Edge) {list root way who edge size : List ℕ} (t : Takeable B given list root way who edge size) where
   sound : Sound B
   sound = t .checked .0
 
-  hu : In (B .n) u
+  hu : In (B .n) (given .one)
   hu = t .checked .1 .1 .0 .0
 
-  hv : In (B .n) v
+  hv : In (B .n) (given .other)
   hv = t .checked .1 .1 .0 .1
 
   pub room : B .count < 512
   room = t .checked .1 .1 .1 .1 .1 .0
 
-  pub seekable : Seekable B u v root way edge
+  pub seekable : Seekable B (given .one) (given .other) root way edge
   seekable = record { sound = sound; one = hu; other = hv; who = who; size = size; tabled = t .ready .tabled }
 
   module _ {ones others colours entered : List ℕ}
-      (l : Entered (B .count) u v colour (B .ones) (B .others) (B .colours) (B .forests) ones others colours entered) where
+      (l : Entered (B .count) given (B .ones) (B .others) (B .colours) (B .forests) ones others colours entered) where
     -- the book with the edge, and these forests
     abbrev pub after : List ℕ → Book
     after forests′ =
@@ -77,11 +77,11 @@ module _ (B : Book) (u v colour : ℕ) {list root way who edge size : List ℕ} 
           forests = forests′;
         }
 
-    adds : (forests′ : List ℕ) → Adds B (after forests′) u v colour
+    adds : (forests′ : List ℕ) → Adds B (after forests′) given
     adds forests′ = record { a = refl; b = refl; n = refl; count = refl; ones = l .one; others = l .other; colours = l .coloured }
 
-    design-is : (forests′ : List ℕ) → designOf (after forests′) ≡ offered B u v colour
-    design-is forests′ = design-after B (after forests′) u v colour (adds forests′) (t .ready .full) room
+    design-is : (forests′ : List ℕ) → designOf (after forests′) ≡ offered B given
+    design-is forests′ = design-after B (after forests′) given (adds forests′) (t .ready .full) room
 
     entered-is : at entered ≡ forestsFor B
     entered-is = ap at (l .nowhere) ∙ at-set (B .forests) (B .count) 0 (omega (arith, room, t .ready .full .forests))
@@ -89,9 +89,9 @@ module _ (B : Book) (u v colour : ℕ) {list root way who edge size : List ℕ} 
     full : (forests′ : List ℕ) → length forests′ ≡ 512 → Full (after forests′)
     full forests′ long =
         record {
-          ones = ap length (l .one) ∙ length-set (B .ones) (B .count) u ∙ t .ready .full .ones;
-          others = ap length (l .other) ∙ length-set (B .others) (B .count) v ∙ t .ready .full .others;
-          colours = ap length (l .coloured) ∙ length-set (B .colours) (B .count) colour ∙ t .ready .full .colours;
+          ones = ap length (l .one) ∙ length-set (B .ones) (B .count) (given .one) ∙ t .ready .full .ones;
+          others = ap length (l .other) ∙ length-set (B .others) (B .count) (given .other) ∙ t .ready .full .others;
+          colours = ap length (l .coloured) ∙ length-set (B .colours) (B .count) (given .colour) ∙ t .ready .full .colours;
           forests = long;
         }
 
@@ -99,22 +99,22 @@ module _ (B : Book) (u v colour : ℕ) {list root way who edge size : List ℕ} 
     entered-long = ap length (l .nowhere) ∙ length-set (B .forests) (B .count) 0 ∙ t .ready .full .forests
 
     -- the tables hold the forests of the book with the edge in none
-    tabled : Tabled (offered B u v colour) (forestsFor B) root way who edge size
+    tabled : Tabled (offered B given) (forestsFor B) root way who edge size
     unfolding designOf
-    tabled = tabled-longer (designOf B) u v colour (forestOf B) root way who edge size (t .ready .tabled)
+    tabled = tabled-longer (designOf B) given (forestOf B) root way who edge size (t .ready .tabled)
 
     -- ---- it is implied
 
-    pub takes-implied : (listed : List ℕ) (n : ℕ) → Fails B u v colour list listed n
-        → Takes B (after entered) u v colour list listed root way who edge size (Implied n)
+    pub takes-implied : (listed : List ℕ) (n : ℕ) → Fails B given list listed n
+        → Takes B (after entered) given list listed root way who edge size (Implied n)
     takes-implied listed n f =
         record {
           offer =
               record {
                 checked = t .checked;
                 says =
-                    subst (ImpliesIt B u v colour list listed) (sym (f .counts))
-                    (stuck-says B u v colour sound hu hv (f .waiting) (f .is-stuck) list listed (f .fills) (f .as-long));
+                    subst (ImpliesIt B given list listed) (sym (f .counts))
+                    (stuck-says B given sound hu hv (f .waiting) (f .is-stuck) list listed (f .fills) (f .as-long));
                 adds = adds entered;
                 forests = l .nowhere;
               };
@@ -129,21 +129,21 @@ module _ (B : Book) (u v colour : ℕ) {list root way who edge size : List ℕ} 
 
     -- ---- it is kept
 
-    module _ (path : List ℕ) (n f : ℕ) (e : Ends B u v colour path n f) where
+    module _ (path : List ℕ) (n f : ℕ) (e : Ends B given path n f) where
       abbrev goes : List ℕ
       goes = pathTo (e .waiting) (e .place)
 
-      drawn : Drawn (offered B u v colour) ones others
+      drawn : Drawn (offered B given) ones others
       unfolding plus designOf
       drawn =
           let head = sound-head B sound in
           record {
             edges = omega (arith, room);
             forests = omega (arith, head .profile .0 .high, head .profile .1 .high);
-            one = λ z h. ap (λ (g : ℕ → ℕ). g z) (sym (one-after B (after entered) u v colour (adds entered) (t .ready .full) room));
-            other = λ z h. ap (λ (g : ℕ → ℕ). g z) (sym (other-after B (after entered) u v colour (adds entered) (t .ready .full) room));
+            one = λ z h. ap (λ (g : ℕ → ℕ). g z) (sym (one-after B (after entered) given (adds entered) (t .ready .full) room));
+            other = λ z h. ap (λ (g : ℕ → ℕ). g z) (sym (other-after B (after entered) given (adds entered) (t .ready .full) room));
             bodies = head .bodies;
-            ends = offered-ends B u v colour sound hu hv;
+            ends = offered-ends B given sound hu hv;
             ones-long = full entered entered-long .ones;
             others-long = full entered entered-long .others;
           }
@@ -152,18 +152,18 @@ module _ (B : Book) (u v colour : ℕ) {list root way who edge size : List ℕ} 
         pub replanting : Replanting n number f path ones others entered root way who edge size
         replanting =
             record {
-              d = offered B u v colour;
+              d = offered B given;
               drawn = drawn;
-              arranged = subst (Arranged (offered B u v colour)) (sym entered-is) (offered-arranged B u v colour sound hu hv);
+              arranged = subst (Arranged (offered B given)) (sym entered-is) (offered-arranged B given sound hu hv);
               start =
-                  subst (λ (x : ℕ). Start (offered B u v colour) (at entered) x (backward path n)) (sym q)
-                  (subst₂ (λ (g : ℕ → ℕ) (l : List ℕ). Start (offered B u v colour) g (next B) l) (sym entered-is) (sym (e .leads))
-                  (start B u v colour sound hu hv (e .place) f (e .waiting) (e .is-found)));
+                  subst (λ (x : ℕ). Start (offered B given) (at entered) x (backward path n)) (sym q)
+                  (subst₂ (λ (g : ℕ → ℕ) (l : List ℕ). Start (offered B given) g (next B) l) (sym entered-is) (sym (e .leads))
+                  (start B given sound hu hv (e .place) f (e .waiting) (e .is-found)));
               free =
-                  subst (λ (x : ℕ). Free (offered B u v colour) (at entered) (end x (backward path n)) f) (sym q)
-                  (subst₂ (λ (g : ℕ → ℕ) (l : List ℕ). Free (offered B u v colour) g (end (next B) l) f) (sym entered-is) (sym (e .leads))
-                  (free B u v colour sound hu hv (e .place) f (e .waiting) (e .is-found)));
-              tabled = subst (λ (g : ℕ → ℕ). Tabled (offered B u v colour) g root way who edge size) (sym entered-is) tabled;
+                  subst (λ (x : ℕ). Free (offered B given) (at entered) (end x (backward path n)) f) (sym q)
+                  (subst₂ (λ (g : ℕ → ℕ) (l : List ℕ). Free (offered B given) g (end (next B) l) f) (sym entered-is) (sym (e .leads))
+                  (free B given sound hu hv (e .place) f (e .waiting) (e .is-found)));
+              tabled = subst (λ (g : ℕ → ℕ). Tabled (offered B given) g root way who edge size) (sym entered-is) tabled;
               sized = t .ready .sized;
               forests-long = entered-long;
               path-long = long;
@@ -183,10 +183,10 @@ module _ (B : Book) (u v colour : ℕ) {list root way who edge size : List ℕ} 
               (λ z h.
               ap (λ (g : ℕ → ℕ). g z) moved-to
               ∙ unmoved (forestsFor B) (next B ∷ goes) f z
-              ((λ x. omega arith), each-below (B .count) goes z (omega arith) (old-path B u v colour sound hu hv (e .place) f (e .waiting) (e .is-found)))
+              ((λ x. omega arith), each-below (B .count) goes z (omega arith) (old-path B given sound hu hv (e .place) f (e .waiting) (e .is-found)))
               ∙ put-other (forestOf B) (next B) 0 z (omega arith))
 
-          pub takes-kept : (listed : List ℕ) → listed ≡ list → Takes B (after forests′) u v colour list listed root′ way′ who′ edge′ size′ (Kept n)
+          pub takes-kept : (listed : List ℕ) → listed ≡ list → Takes B (after forests′) given list listed root′ way′ who′ edge′ size′ (Kept n)
           unfolding replanting
           takes-kept listed same =
               record {
@@ -194,8 +194,8 @@ module _ (B : Book) (u v colour : ℕ) {list root way who edge size : List ℕ} 
                     record {
                       checked = t .checked;
                       says =
-                          subst₂ (KeepsIt B u v colour) (sym moved-to) (sym (e .counts))
-                          (found-says B u v colour sound hu hv (e .place) f (e .waiting) (e .is-found));
+                          subst₂ (KeepsIt B given) (sym moved-to) (sym (e .counts))
+                          (found-says B given sound hu hv (e .place) f (e .waiting) (e .is-found));
                       adds = adds forests′;
                       as-long = r .forests-long ∙ sym (t .ready .full .forests);
                       past = past;

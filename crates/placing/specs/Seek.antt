@@ -5,7 +5,7 @@ use Prim.Native.Nat.{ℕ, _≤_}
 use lib.ListN.{length}
 use Rattle.rule.specs.declared.Book.{Book}
 use Rattle.rule.specs.Sets.{In, put, _without_, numbers}
-use Rattle.rule.specs.Books.{designOf, forestOf, offered, next, Sound}
+use Rattle.rule.specs.Books.{Edge, designOf, forestOf, offered, next, Sound}
 use Rattle.rule.specs.Calls.{Filled}
 use Rattle.theory.specs.Search.{Waiting, search, pathTo}
 use Rattle.theory.specs.Search.Result.{found, going}
@@ -43,23 +43,23 @@ pub record Seekable (B : Book) (u v : ℕ) (root way edge : List ℕ) : Type 0 w
   pub tabled : Tabled (designOf B) (forestOf B) root way who edge size
 
 -- the search ended in forest f, and the first n places of an array hold the path to its end, last edge first
-pub record Ends (B : Book) (u v colour : ℕ) (path : List ℕ) (n f : ℕ) : Type 0 where
+pub record Ends (B : Book) (given : Edge) (path : List ℕ) (n f : ℕ) : Type 0 where
   pub waiting : Waiting
   pub place : ℕ
-  pub is-found : search (offered B u v colour) (forestsFor B) (next B) ≡ found place f waiting
+  pub is-found : search (offered B given) (forestsFor B) (next B) ≡ found place f waiting
   pub leads : backward path n ≡ pathTo waiting place
   pub counts : n ≡ length (pathTo waiting place)
   pub few : n ≤ 379
 
 -- it did not end, and the first places of a list hold the edges that it reached
-pub record Fails (B : Book) (u v colour : ℕ) (list listed : List ℕ) (n : ℕ) : Type 0 where
+pub record Fails (B : Book) (given : Edge) (list listed : List ℕ) (n : ℕ) : Type 0 where
   pub waiting : Waiting
-  pub is-stuck : search (offered B u v colour) (forestsFor B) (next B) ≡ going waiting
+  pub is-stuck : search (offered B given) (forestsFor B) (next B) ≡ going waiting
   pub fills : Filled (numbers (waiting .seen without next B) (next B)) list listed
   pub counts : n ≡ length (numbers (waiting .seen without next B) (next B))
   pub as-long : length listed ≡ length list
 
 -- what seeking answers and leaves in the arrays
-abbrev pub Seeks : Book → (u v colour : ℕ) (list path′ listed : List ℕ) → Place → Type 0
-Seeks B u v colour list path′ listed (Found n f) = Ends B u v colour path′ n f × (listed ≡ list)
-Seeks B u v colour list path′ listed (Stuck n) = Fails B u v colour list listed n
+abbrev pub Seeks : Book → (given : Edge) (list path′ listed : List ℕ) → Place → Type 0
+Seeks B given list path′ listed (Found n f) = Ends B given path′ n f × (listed ≡ list)
+Seeks B given list path′ listed (Stuck n) = Fails B given list listed n

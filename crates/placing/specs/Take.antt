@@ -5,7 +5,7 @@ use Prim.Native.Nat.{ℕ, suc}
 use lib.ListN.{length, set}
 use Rattle.rule.specs.declared.Book.{Book}
 use Rattle.rule.specs.declared.Answer.{Answer}
-use Rattle.rule.specs.Books.{designOf, forestOf}
+use Rattle.rule.specs.Books.{Edge, designOf, forestOf}
 use Rattle.rule.specs.Reasons.{Pass, offerChecks}
 use Rattle.rule.specs.Calls.{Offer}
 use Rattle.tables.specs.Tables.{Tabled}
@@ -24,10 +24,10 @@ pub record Full (B : Book) : Type 0 where
   pub forests : length (B .forests) ≡ 512
 
 -- an edge between u and v stands in the lists behind the others, in no forest
-pub record Entered (edges u v colour : ℕ) (ones others colours forests ones′ others′ colours′ forests′ : List ℕ) : Type 0 where
-  pub one : ones′ ≡ set ones edges u
-  pub other : others′ ≡ set others edges v
-  pub coloured : colours′ ≡ set colours edges colour
+pub record Entered (edges : ℕ) (given : Edge) (ones others colours forests ones′ others′ colours′ forests′ : List ℕ) : Type 0 where
+  pub one : ones′ ≡ set ones edges (given .one)
+  pub other : others′ ≡ set others edges (given .other)
+  pub coloured : colours′ ≡ set colours edges (given .colour)
   pub nowhere : forests′ ≡ set forests edges 0
 
 -- the tables hold the forests of the book
@@ -37,11 +37,11 @@ pub record Ready (B : Book) (root way who edge size : List ℕ) : Type 0 where
   pub full : Full B
 
 -- the edge passes the checks of an offer
-pub record Takeable (B : Book) (u v colour : ℕ) (list root way who edge size : List ℕ) : Type 0 where
-  pub checked : Pass (offerChecks B u v colour list)
+pub record Takeable (B : Book) (given : Edge) (list root way who edge size : List ℕ) : Type 0 where
+  pub checked : Pass (offerChecks B given list)
   pub ready : Ready B root way who edge size
 
 -- it has been offered, and the tables hold the forests of the book as it is now
-pub record Takes (before after : Book) (u v colour : ℕ) (list listed root′ way′ who′ edge′ size′ : List ℕ) (answer : Answer) : Type 0 where
-  pub offer : Offer before after u v colour list listed answer
+pub record Takes (before after : Book) (given : Edge) (list listed root′ way′ who′ edge′ size′ : List ℕ) (answer : Answer) : Type 0 where
+  pub offer : Offer before after given list listed answer
   pub ready : Ready after root′ way′ who′ edge′ size′

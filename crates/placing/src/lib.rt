@@ -4,6 +4,7 @@ ghost use mathlib.Core.Path.{_≡_};
 ghost use mathlib.Core.List.{List};
 ghost use Prim.Native.Nat.{ℕ, _+_, _≤_, _<_};
 ghost use lib.ListN.{length};
+ghost use Rattle.rule.specs.Books.{theEdge};
 ghost use Rattle.placing.specs.Seek.{bookOf, Seekable, Seeks};
 ghost use Rattle.placing.specs.Take.{longer, Entered, Takeable, Takes};
 use rule::Answer;
@@ -46,7 +47,7 @@ pub fn seek(
         × Seekable (bookOf head (now ones) (now others) (now colours) (now forests)) u v (now root) (now way) (now edge) ⌝ }
     ensures { λ r. ⌜ (length (now (queue .exit)) ≡ 379) × (length (now (from .exit)) ≡ 379) × (length (now (path .exit)) ≡ 379)
         × (Seekable (bookOf head (now (ones .entry)) (now (others .entry)) (now (colours .entry)) (now (forests .entry))) u v (now (root .entry)) (now (way .entry)) (now (edge .entry))
-        → Seeks (bookOf head (now (ones .entry)) (now (others .entry)) (now (colours .entry)) (now (forests .entry))) u v colour (now (list .entry)) (now (path .exit)) (now (list .exit)) r) ⌝ }
+        → Seeks (bookOf head (now (ones .entry)) (now (others .entry)) (now (colours .entry)) (now (forests .entry))) (theEdge u v colour) (now (list .entry)) (now (path .exit)) (now (list .exit)) r) ⌝ }
 {
     let a = head.a as usize;
     let k = a + (head.b as usize);
@@ -92,7 +93,7 @@ pub fn place_for(
     list: &mut [u16],
 ) -> Place
     requires { ⌜ (378 ≤ length (now list)) × Seekable book u v (now root) (now way) (now edge) ⌝ }
-    ensures { λ r. ⌜ ((path : List ℕ) × Seeks book u v colour (now (list .entry)) path (now (list .exit)) r) ⌝ }
+    ensures { λ r. ⌜ ((path : List ℕ) × Seeks book (theEdge u v colour) (now (list .entry)) path (now (list .exit)) r) ⌝ }
 {
     let head = Head {
         a: book.a,
@@ -138,7 +139,7 @@ fn enter(
     forests: &mut [u8; 512],
 )
     requires { ⌜ (count < 512) × (length (now ones) ≡ 512) × (length (now others) ≡ 512) × (length (now colours) ≡ 512) × (length (now forests) ≡ 512) ⌝ }
-    ensures { λ r. ⌜ Entered count u v colour (now (ones .entry)) (now (others .entry)) (now (colours .entry)) (now (forests .entry)) (now (ones .exit)) (now (others .exit)) (now (colours .exit)) (now (forests .exit)) ⌝ }
+    ensures { λ r. ⌜ Entered count (theEdge u v colour) (now (ones .entry)) (now (others .entry)) (now (colours .entry)) (now (forests .entry)) (now (ones .exit)) (now (others .exit)) (now (colours .exit)) (now (forests .exit)) ⌝ }
 {
     let i = count as usize;
     ones[i] = u;
@@ -169,10 +170,10 @@ pub fn take(
     list: &mut [u16],
 ) -> Answer
     requires { ⌜ (length (now queue) ≡ 379) × (length (now from) ≡ 379) × (length (now path) ≡ 379)
-        × Takeable (bookOf head (now ones) (now others) (now colours) (now forests)) u v colour (now list) (now root) (now way) (now who) (now edge) (now size) ⌝ }
+        × Takeable (bookOf head (now ones) (now others) (now colours) (now forests)) (theEdge u v colour) (now list) (now root) (now way) (now who) (now edge) (now size) ⌝ }
     ensures { λ r. ⌜ (length (now (queue .exit)) ≡ 379) × (length (now (from .exit)) ≡ 379) × (length (now (path .exit)) ≡ 379)
-        × (Takeable (bookOf head (now (ones .entry)) (now (others .entry)) (now (colours .entry)) (now (forests .entry))) u v colour (now (list .entry)) (now (root .entry)) (now (way .entry)) (now (who .entry)) (now (edge .entry)) (now (size .entry))
-        → Takes (bookOf head (now (ones .entry)) (now (others .entry)) (now (colours .entry)) (now (forests .entry))) (bookOf (longer head) (now (ones .exit)) (now (others .exit)) (now (colours .exit)) (now (forests .exit))) u v colour (now (list .entry)) (now (list .exit)) (now (root .exit)) (now (way .exit)) (now (who .exit)) (now (edge .exit)) (now (size .exit)) r) ⌝ }
+        × (Takeable (bookOf head (now (ones .entry)) (now (others .entry)) (now (colours .entry)) (now (forests .entry))) (theEdge u v colour) (now (list .entry)) (now (root .entry)) (now (way .entry)) (now (who .entry)) (now (edge .entry)) (now (size .entry))
+        → Takes (bookOf head (now (ones .entry)) (now (others .entry)) (now (colours .entry)) (now (forests .entry))) (bookOf (longer head) (now (ones .exit)) (now (others .exit)) (now (colours .exit)) (now (forests .exit))) (theEdge u v colour) (now (list .entry)) (now (list .exit)) (now (root .exit)) (now (way .exit)) (now (who .exit)) (now (edge .exit)) (now (size .exit)) r) ⌝ }
 {
     let count = head.count;
     let s = seek(

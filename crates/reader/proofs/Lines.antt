@@ -12,10 +12,10 @@ use lib.Seq.{take-suc, take-all}
 use Rattle.rule.specs.declared.Book.{Book}
 use Rattle.rule.specs.declared.Answer.{Answer}
 use Rattle.rule.specs.Sets.{In}
-use Rattle.rule.specs.Books.{Sound, Obeys, ProfileRange, BodiesRange}
+use Rattle.rule.specs.Books.{Edge, Sound, Obeys, ProfileRange, BodiesRange}
 use Rattle.rule.specs.Reasons.{Pass, offerChecks}
 use Rattle.rule.specs.Calls.{newBook}
-use Rattle.text.specs.Sheets.{Edge, Sheet, EdgeRange}
+use Rattle.text.specs.Sheets.{Sheet, EdgeRange}
 use Rattle.text.specs.declared.EdgeLine.{EdgeLine}
 use Rattle.text.specs.declared.EdgeLine.the-variants.{Joins}
 use Rattle.text.specs.Readings.{readEdge}

@@ -16,7 +16,7 @@ use lib.Seq.{length-take-le, take-append-seam, drop-append-seam}
 use Rattle.rule.specs.declared.Book.{Book}
 use Rattle.rule.specs.Sets.{Is, In, one-if, count, at, numbers}
 use Rattle.rule.specs.Legal.{InCircuit, Circuit}
-use Rattle.rule.specs.Books.{designOf, forestOf, keptOf, offered, plus, next, Sound}
+use Rattle.rule.specs.Books.{Edge, designOf, forestOf, keptOf, offered, plus, next, Sound}
 use Rattle.rule.specs.Calls.{ImpliesIt}
 use Rattle.rule.proofs.Tests.{is-false}
 use Rattle.rule.proofs.Counting.{count-mono, length-numbers}
@@ -30,16 +30,16 @@ use Rattle.restated.proofs.Kept.{keeps-iff, without-iff}
 -- ---- one list
 
 -- the circuit in lists is one list
-pub circuit-one-list : (B : Book) (u v colour : ℕ) (circuit other : List ℕ) → CircuitOf B u v colour circuit → CircuitOf B u v colour other
+pub circuit-one-list : (B : Book) (given : Edge) (circuit other : List ℕ) → CircuitOf B given circuit → CircuitOf B given other
     → circuit ≡ other
-circuit-one-list B u v colour circuit other p q =
+circuit-one-list B given circuit other p q =
     ascending-same circuit other (p .ascending) (q .ascending) (λ y h. q .members y .1 (p .members y .0 h)) (λ y h. p .members y .1 (q .members y .0 h))
 
 -- so the answer and the lent list are determined
-pub exact-circuit-determined : (B : Book) (u v colour : ℕ) (list listed lines : List ℕ) (number count : ℕ)
-    → ExactCircuit B u v colour list listed number → ExactCircuit B u v colour list lines count → (number ≡ count) × (listed ≡ lines)
-exact-circuit-determined B u v colour list listed lines number count p q =
-    let same : take number listed ≡ take count lines = circuit-one-list B u v colour _ _ (p .is-circuit) (q .is-circuit) in
+pub exact-circuit-determined : (B : Book) (given : Edge) (list listed lines : List ℕ) (number count : ℕ)
+    → ExactCircuit B given list listed number → ExactCircuit B given list lines count → (number ≡ count) × (listed ≡ lines)
+exact-circuit-determined B given list listed lines number count p q =
+    let same : take number listed ≡ take count lines = circuit-one-list B given _ _ (p .is-circuit) (q .is-circuit) in
     let size : number ≡ count =
     sym (length-take-le number listed (omega (arith, p .fits, p .as-long)))
     ∙ ap length same
@@ -57,8 +57,8 @@ unfolding at
 forest-at B zero h = absurd (omega arith)
 forest-at B (suc y) h = ap (λ (z : ℕ). getD (B .forests) z 0) (omega arith)
 
-module _ (B : Book) (u v colour : ℕ) (sound : Sound B) (hu : In (B .n) u) (hv : In (B .n) v) where
-  edge-iff : (y : ℕ) → 1 ≤ y → (InCircuit (offered B u v colour) (keptOf B) (next B) y ↔ CircuitEdge B u v colour y)
+module _ (B : Book) (given : Edge) (sound : Sound B) (hu : In (B .n) (given .one)) (hv : In (B .n) (given .other)) where
+  edge-iff : (y : ℕ) → 1 ≤ y → (InCircuit (offered B given) (keptOf B) (next B) y ↔ CircuitEdge B given y)
   unfolding designOf
   edge-iff y low = (
     λ c.
@@ -66,21 +66,21 @@ module _ (B : Book) (u v colour : ℕ) (sound : Sound B) (hu : In (B .n) u) (hv 
           low = low;
           high = kept-most (designOf B) (forestOf B) y (c .0);
           kept = subst (λ (z : ℕ). 1 ≤ z) (forest-at B y low) (kept-has (designOf B) (forestOf B) y (c .0));
-          legal-without = without-iff B u v colour sound hu hv y .0 (c .1);
+          legal-without = without-iff B given sound hu hv y .0 (c .1);
         },
     λ c. (
       kept-make (designOf B) (forestOf B) y (c .high) (subst (λ (z : ℕ). 1 ≤ z) (sym (forest-at B y low)) (c .kept)),
-      without-iff B u v colour sound hu hv y .1 (c .legal-without),
+      without-iff B given sound hu hv y .1 (c .legal-without),
     ),
   )
 
-  edge-in : (y : ℕ) → CircuitEdge B u v colour y → In (next B) y
+  edge-in : (y : ℕ) → CircuitEdge B given y → In (next B) y
   edge-in y c = omega (arith, c .low, c .high)
 
-  circuit-listed : (circuit : List ℕ) → Circuit (offered B u v colour) (keptOf B) (next B) circuit → CircuitOf B u v colour circuit
+  circuit-listed : (circuit : List ℕ) → Circuit (offered B given) (keptOf B) (next B) circuit → CircuitOf B given circuit
   unfolding plus designOf
   circuit-listed circuit c =
-      subst (CircuitOf B u v colour) (sym (c .in-order))
+      subst (CircuitOf B given) (sym (c .in-order))
       (record {
         ascending = numbers-ascending (c .chosen) (next B);
         members =
@@ -92,7 +92,7 @@ module _ (B : Book) (u v colour : ℕ) (sound : Sound B) (hu : In (B .n) u) (hv 
             );
       })
 
-  listed-circuit : (circuit : List ℕ) → CircuitOf B u v colour circuit → Circuit (offered B u v colour) (keptOf B) (next B) circuit
+  listed-circuit : (circuit : List ℕ) → CircuitOf B given circuit → Circuit (offered B given) (keptOf B) (next B) circuit
   unfolding plus designOf
   listed-circuit circuit c =
       let held = held-by circuit in
@@ -109,12 +109,12 @@ module _ (B : Book) (u v colour : ℕ) (sound : Sound B) (hu : In (B .n) u) (hv 
             (λ y m. held-member circuit y (member-numbers held (next B) y m .1));
       }
 
-  pub circuit-iff : (circuit : List ℕ) → (Circuit (offered B u v colour) (keptOf B) (next B) circuit ↔ CircuitOf B u v colour circuit)
+  pub circuit-iff : (circuit : List ℕ) → (Circuit (offered B given) (keptOf B) (next B) circuit ↔ CircuitOf B given circuit)
   circuit-iff circuit = (circuit-listed circuit, listed-circuit circuit)
 
   -- ---- room in the lent list
 
-  circuit-short : (circuit : List ℕ) → Circuit (offered B u v colour) (keptOf B) (next B) circuit → length circuit ≤ 378
+  circuit-short : (circuit : List ℕ) → Circuit (offered B given) (keptOf B) (next B) circuit → length circuit ≤ 378
   unfolding plus designOf count
   circuit-short circuit c =
       let past : ¬ (Is (keptOf B (next B))) = λ k. absurd (omega (arith, kept-most (designOf B) (forestOf B) (next B) k)) in
@@ -130,7 +130,7 @@ module _ (B : Book) (u v colour : ℕ) (sound : Sound B) (hu : In (B .n) u) (hv 
   -- ---- what is said of an implied edge
 
   module _ (list listed : List ℕ) (number : ℕ) (room : 378 ≤ length list) where
-    said-exact : ImpliesIt B u v colour list listed number → ExactCircuit B u v colour list listed number
+    said-exact : ImpliesIt B given list listed number → ExactCircuit B given list listed number
     said-exact says =
         let l : List ℕ = says .circuit in
         let front : take number listed ≡ l =
@@ -139,18 +139,18 @@ module _ (B : Book) (u v colour : ℕ) (sound : Sound B) (hu : In (B .n) u) (hv 
         record {
           fits = omega (arith, says .number);
           as-long = says .as-long;
-          is-circuit = subst (CircuitOf B u v colour) (sym front) (circuit-iff l .0 (says .is-circuit));
+          is-circuit = subst (CircuitOf B given) (sym front) (circuit-iff l .0 (says .is-circuit));
           past =
               ap₂ (λ (k : ℕ) (z : List ℕ). drop k z) (says .number) (says .fills)
               ∙ drop-append-seam l (drop (length l) list)
               ∙ ap (λ (k : ℕ). drop k list) (sym (says .number));
         }
 
-    exact-said : ¬ LegalWith B u v colour → ExactCircuit B u v colour list listed number → ImpliesIt B u v colour list listed number
+    exact-said : ¬ LegalWith B given → ExactCircuit B given list listed number → ImpliesIt B given list listed number
     exact-said implied e =
         let size : number ≡ length (take number listed) = sym (length-take-le number listed (omega (arith, e .fits, e .as-long))) in
         record {
-          implies = λ keeps. implied (keeps-iff B u v colour sound hu hv .0 keeps);
+          implies = λ keeps. implied (keeps-iff B given sound hu hv .0 keeps);
           circuit = take number listed;
           is-circuit = circuit-iff (take number listed) .1 (e .is-circuit);
           number = size;
@@ -160,8 +160,8 @@ module _ (B : Book) (u v colour : ℕ) (sound : Sound B) (hu : In (B .n) u) (hv 
           as-long = e .as-long;
         }
 
-    pub implied-iff-exact : ImpliesIt B u v colour list listed number ↔ ((¬ LegalWith B u v colour) × ExactCircuit B u v colour list listed number)
+    pub implied-iff-exact : ImpliesIt B given list listed number ↔ ((¬ LegalWith B given) × ExactCircuit B given list listed number)
     implied-iff-exact = (
-      λ says. ((λ legal. says .implies (keeps-iff B u v colour sound hu hv .1 legal)), said-exact says),
+      λ says. ((λ legal. says .implies (keeps-iff B given sound hu hv .1 legal)), said-exact says),
       λ e. exact-said (e .0) (e .1),
     )

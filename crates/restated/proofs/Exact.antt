@@ -13,7 +13,7 @@ use Rattle.rule.specs.declared.Book.{Book}
 use Rattle.rule.specs.declared.Answer.{Answer}
 use Rattle.rule.specs.declared.Answer.the-variants.{Kept, Implied, Refused}
 use Rattle.rule.specs.Sets.{In}
-use Rattle.rule.specs.Books.{Sound}
+use Rattle.rule.specs.Books.{Edge, Sound}
 use Rattle.rule.specs.Reasons.{Pass, circuitRoom, questionChecks, offerChecks}
 use Rattle.rule.specs.Calls.{KeepsIt, ImpliesIt, Offer, Question}
 use Rattle.rule.proofs.Outcomes.{AnswersAgree}
@@ -23,65 +23,65 @@ use Rattle.restated.specs.BookBars.{LegalWith, SaysInLists}
 use Rattle.restated.proofs.Kept.{keeps-iff}
 use Rattle.restated.proofs.Circuits.{exact-circuit-determined, implied-iff-exact}
 
-module _ (B : Book) (u v colour : ℕ) (list : List ℕ) where
+module _ (B : Book) (given : Edge) (list : List ℕ) where
   -- what the checks of a question and of an offer give
   record MayTake : Type 0 where
     sound : Sound B
-    one : In (B .n) u
-    other : In (B .n) v
+    one : In (B .n) (given .one)
+    other : In (B .n) (given .other)
     room : circuitRoom ≤ length list
 
-  question-may : Pass (questionChecks B u v colour list) → MayTake
+  question-may : Pass (questionChecks B given list) → MayTake
   question-may c = record { sound = c .0; one = c .1 .1 .0 .0; other = c .1 .1 .0 .1; room = c .1 .1 .1 .1 .0 }
 
-  offer-may : Pass (offerChecks B u v colour list) → MayTake
+  offer-may : Pass (offerChecks B given list) → MayTake
   offer-may c = record { sound = c .0; one = c .1 .1 .0 .0; other = c .1 .1 .0 .1; room = c .1 .1 .1 .1 .0 }
 
   -- ---- what is said
 
-  kept-says : MayTake → {forest : ℕ → ℕ} {moved : ℕ} → KeepsIt B u v colour forest moved → LegalWith B u v colour
-  kept-says t says = keeps-iff B u v colour (t .sound) (t .one) (t .other) .0 (says .keeps)
+  kept-says : MayTake → {forest : ℕ → ℕ} {moved : ℕ} → KeepsIt B given forest moved → LegalWith B given
+  kept-says t says = keeps-iff B given (t .sound) (t .one) (t .other) .0 (says .keeps)
 
-  implied-says : MayTake → {listed : List ℕ} {number : ℕ} → ImpliesIt B u v colour list listed number → SaysInLists B u v colour list listed (Implied number)
-  implied-says t {listed} {number} says = implied-iff-exact B u v colour (t .sound) (t .one) (t .other) list listed number (t .room) .0 says
+  implied-says : MayTake → {listed : List ℕ} {number : ℕ} → ImpliesIt B given list listed number → SaysInLists B given list listed (Implied number)
+  implied-says t {listed} {number} says = implied-iff-exact B given (t .sound) (t .one) (t .other) list listed number (t .room) .0 says
 
   module _ (listed : List ℕ) where
-    pub offer-says : (after : Book) (answer : Answer) → Offer B after u v colour list listed answer → SaysInLists B u v colour list listed answer
+    pub offer-says : (after : Book) (answer : Answer) → Offer B after given list listed answer → SaysInLists B given list listed answer
     offer-says after (Kept moved) o = (kept-says (offer-may (o .checked)) (o .says), o .unwritten)
     offer-says after (Implied number) o = implied-says (offer-may (o .checked)) (o .says)
     offer-says after (Refused reason) o = o .2
 
-    pub question-says : (answer : Answer) → Question B u v colour list listed answer → SaysInLists B u v colour list listed answer
+    pub question-says : (answer : Answer) → Question B given list listed answer → SaysInLists B given list listed answer
     question-says (Kept moved) q = (kept-says (question-may (q .checked)) (q .says), q .unwritten)
     question-says (Implied number) q = implied-says (question-may (q .checked)) (q .says)
     question-says (Refused reason) q = q .1
 
     -- ---- kept, or else implied
 
-    pub kept-or-implied : (answer : Answer) → Taken answer → SaysInLists B u v colour list listed answer
-        → (IsKept answer × LegalWith B u v colour) ⊎ (IsImplied answer × (¬ LegalWith B u v colour))
+    pub kept-or-implied : (answer : Answer) → Taken answer → SaysInLists B given list listed answer
+        → (IsKept answer × LegalWith B given) ⊎ (IsImplied answer × (¬ LegalWith B given))
     kept-or-implied (Kept moved) t s = inl (tt, s .0)
     kept-or-implied (Implied number) t s = inr (tt, s .0)
     kept-or-implied (Refused reason) t s = absurd t
 
-    pub kept-exactly : (answer : Answer) → Taken answer → SaysInLists B u v colour list listed answer → (IsKept answer ↔ LegalWith B u v colour)
+    pub kept-exactly : (answer : Answer) → Taken answer → SaysInLists B given list listed answer → (IsKept answer ↔ LegalWith B given)
     kept-exactly (Kept moved) t s = ((λ _. s .0), (λ _. tt))
     kept-exactly (Implied number) t s = ((λ k. absurd k), s .0)
     kept-exactly (Refused reason) t s = absurd t
 
-    pub implied-exactly : (answer : Answer) → Taken answer → SaysInLists B u v colour list listed answer → (IsImplied answer ↔ (¬ LegalWith B u v colour))
+    pub implied-exactly : (answer : Answer) → Taken answer → SaysInLists B given list listed answer → (IsImplied answer ↔ (¬ LegalWith B given))
     implied-exactly (Kept moved) t s = ((λ k. absurd k), (λ n. n (s .0)))
     implied-exactly (Implied number) t s = ((λ _. s .0), (λ _. tt))
     implied-exactly (Refused reason) t s = absurd t
 
   -- ---- one answer
 
-  pub says-determined : (listed lines : List ℕ) (x y : Answer) → Taken x → Taken y → SaysInLists B u v colour list listed x
-      → SaysInLists B u v colour list lines y → AnswersAgree (listed ≡ lines) (listed ≡ lines) x y
+  pub says-determined : (listed lines : List ℕ) (x y : Answer) → Taken x → Taken y → SaysInLists B given list listed x
+      → SaysInLists B given list lines y → AnswersAgree (listed ≡ lines) (listed ≡ lines) x y
   says-determined listed lines (Kept c) (Kept e) t w p q = p .1 ∙ sym (q .1)
   says-determined listed lines (Kept c) (Implied e) t w p q = q .0 (p .0)
   says-determined listed lines (Implied c) (Kept e) t w p q = p .0 (q .0)
-  says-determined listed lines (Implied c) (Implied e) t w p q = exact-circuit-determined B u v colour list listed lines c e (p .1) (q .1)
+  says-determined listed lines (Implied c) (Implied e) t w p q = exact-circuit-determined B given list listed lines c e (p .1) (q .1)
   says-determined listed lines (Kept c) (Refused r) t w p q = absurd w
   says-determined listed lines (Implied c) (Refused r) t w p q = absurd w
   says-determined listed lines (Refused r) y t w p q = absurd t

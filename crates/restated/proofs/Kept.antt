@@ -15,7 +15,7 @@ use lib.ListN.{getD}
 use Rattle.rule.specs.declared.Book.{Book}
 use Rattle.rule.specs.Sets.{_and_, isnt, _=?_, _<?_, Set, In, _with_, _without_, at}
 use Rattle.rule.specs.Legal.{Design, Legal, Keeps}
-use Rattle.rule.specs.Books.{designOf, forestOf, keptOf, offered, plus, next, Sound}
+use Rattle.rule.specs.Books.{Edge, designOf, forestOf, keptOf, offered, plus, next, Sound}
 use Rattle.rule.proofs.Tests.{same-test, and-make, and-l, and-r, isnt-make, isnt-not, eq-of, eq-is, lt-of, lt-is, put-same, put-other, without-old, without-ne, without-make}
 use Rattle.theory.proofs.Legal.Kept.{kept-make, kept-has}
 use Rattle.theory.proofs.Laws.Plus.{plus-one, plus-other, plus-red, new-one, new-other, new-red}
@@ -65,41 +65,41 @@ module _ (B : Book) where
 
 -- ---- with an offered edge
 
-module _ (B : Book) (u v colour : ℕ) where
-  bar-new : edgeBar (offered B u v colour) (next B) ≡ newBar u v colour
+module _ (B : Book) (given : Edge) where
+  bar-new : edgeBar (offered B given) (next B) ≡ newBar given
   unfolding edgeBar designOf _=?_
   bar-new =
       let d = designOf B in
-      λ j. record { one = new-one d u v colour j; other = new-other d u v colour j; red = new-red d u v colour j }
+      λ j. record { one = new-one d given j; other = new-other d given j; red = new-red d given j }
 
-  bar-old : (i : ℕ) → i < B .count → edgeBar (offered B u v colour) (suc i) ≡ placeBar B i
+  bar-old : (i : ℕ) → i < B .count → edgeBar (offered B given) (suc i) ≡ placeBar B i
   unfolding edgeBar designOf at _=?_
   bar-old i h =
       let d = designOf B in
       let old : suc i ≢ suc (B .count) = λ q. omega arith in
-      λ j. record { one = plus-one d u v colour (suc i) old j; other = plus-other d u v colour (suc i) old j; red = plus-red d u v colour (suc i) old j }
+      λ j. record { one = plus-one d given (suc i) old j; other = plus-other d given (suc i) old j; red = plus-red d given (suc i) old j }
 
   -- the offered edge with some of the others
-  new-with : (s : Set) (bars : List Bar) → barsOf (offered B u v colour) s (B .count) ≡ bars
-      → barsOf (offered B u v colour) (s with next B) (next B) ≡ newBar u v colour ∷ bars
+  new-with : (s : Set) (bars : List Bar) → barsOf (offered B given) s (B .count) ≡ bars
+      → barsOf (offered B given) (s with next B) (next B) ≡ newBar given ∷ bars
   unfolding barsOf
   new-with s bars q =
-      let d = offered B u v colour in
+      let d = offered B given in
       let rest : barsOf d (s with next B) (B .count) ≡ bars =
       bars-agree d (s with next B) s (B .count) (λ i h. put-other s (next B) true i (omega arith)) ∙ q in
       λ j. front-if (put-same s (next B) true j) (bar-new j) (rest j)
 
-  module _ (sound : Sound B) (hu : In (B .n) u) (hv : In (B .n) v) where
-    legal-with : (s : Set) (bars : List Bar) → barsOf (offered B u v colour) s (B .count) ≡ bars
-        → (Legal (offered B u v colour) (s with next B) ↔ LegalBars (B .a) (B .b) (B .n) (newBar u v colour ∷ bars))
+  module _ (sound : Sound B) (hu : In (B .n) (given .one)) (hv : In (B .n) (given .other)) where
+    legal-with : (s : Set) (bars : List Bar) → barsOf (offered B given) s (B .count) ≡ bars
+        → (Legal (offered B given) (s with next B) ↔ LegalBars (B .a) (B .b) (B .n) (newBar given ∷ bars))
     unfolding plus designOf
     legal-with s bars q =
-        subst (λ (l : List Bar). Legal (offered B u v colour) (s with next B) ↔ LegalBars (B .a) (B .b) (B .n) l) (new-with s bars q)
-        (legal-iff-bars (offered B u v colour) (offered-ends B u v colour sound hu hv) (s with next B))
+        subst (λ (l : List Bar). Legal (offered B given) (s with next B) ↔ LegalBars (B .a) (B .b) (B .n) l) (new-with s bars q)
+        (legal-iff-bars (offered B given) (offered-ends B given sound hu hv) (s with next B))
 
-    pub keeps-iff : Keeps (offered B u v colour) (keptOf B) (next B) ↔ LegalWith B u v colour
-    keeps-iff = legal-with (keptOf B) (keptBars B) (all-bars B (offered B u v colour) bar-old)
+    pub keeps-iff : Keeps (offered B given) (keptOf B) (next B) ↔ LegalWith B given
+    keeps-iff = legal-with (keptOf B) (keptBars B) (all-bars B (offered B given) bar-old)
 
     pub without-iff : (y : ℕ)
-        → (Legal (offered B u v colour) (keptOf B without y with next B) ↔ LegalBars (B .a) (B .b) (B .n) (newBar u v colour ∷ keptBut B y))
-    without-iff y = legal-with (keptOf B without y) (keptBut B y) (but-bars B (offered B u v colour) bar-old y)
+        → (Legal (offered B given) (keptOf B without y with next B) ↔ LegalBars (B .a) (B .b) (B .n) (newBar given ∷ keptBut B y))
+    without-iff y = legal-with (keptOf B without y) (keptBut B y) (but-bars B (offered B given) bar-old y)

@@ -18,7 +18,7 @@ use Rattle.rule.specs.declared.Done.{Done}
 use Rattle.rule.specs.Sets.{Set, In}
 use Rattle.rule.specs.Legal.{Design, Ends, Legal, Keeps, Circuit}
 use Rattle.rule.specs.Figures.{InGroup}
-use Rattle.rule.specs.Books.{designOf, keptOf, offered, next, Sound}
+use Rattle.rule.specs.Books.{Edge, designOf, keptOf, offered, next, Sound}
 use Rattle.rule.specs.Reasons.{Pass, circuitRoom, groupsChecks}
 use Rattle.rule.specs.Calls.{ImpliesIt, Offer, Question, Grouped}
 use Rattle.rule.proofs.Outcomes.{AnswersAgree}
@@ -43,73 +43,73 @@ legal-in-lists = Same.legal-iff-bars
 pub kept-bars-of-book : (B : Book) → barsOf (designOf B) (keptOf B) (B .count) ≡ keptBars B
 kept-bars-of-book = Keeping.own-bars
 
-module _ (B : Book) (u v colour : ℕ) (sound : Sound B) (hu : In (B .n) u) (hv : In (B .n) v) where
+module _ (B : Book) (given : Edge) (sound : Sound B) (hu : In (B .n) (given .one)) (hv : In (B .n) (given .other)) where
   -- ---- 2. Kept
 
   -- an edge offered to a sound book is kept exactly when the kept bars with the new one are legal
-  pub kept-in-lists : Keeps (offered B u v colour) (keptOf B) (next B) ↔ LegalWith B u v colour
-  kept-in-lists = Keeping.keeps-iff B u v colour sound hu hv
+  pub kept-in-lists : Keeps (offered B given) (keptOf B) (next B) ↔ LegalWith B given
+  kept-in-lists = Keeping.keeps-iff B given sound hu hv
 
   -- ---- 3. The circuit
 
   -- a list is the circuit exactly when it ascends and its members are the kept edges y such that the kept bars without y, with the new one, are legal
-  pub circuit-in-lists : (circuit : List ℕ) → (Circuit (offered B u v colour) (keptOf B) (next B) circuit ↔ CircuitOf B u v colour circuit)
-  circuit-in-lists = Circuits.circuit-iff B u v colour sound hu hv
+  pub circuit-in-lists : (circuit : List ℕ) → (Circuit (offered B given) (keptOf B) (next B) circuit ↔ CircuitOf B given circuit)
+  circuit-in-lists = Circuits.circuit-iff B given sound hu hv
 
   -- what the contracts say of an implied edge is that the kept bars with the new one are not legal, and that the first places of the lent list
   -- are the circuit, and the others as they were
   pub implied-in-lists : (list listed : List ℕ) (number : ℕ) → circuitRoom ≤ length list
-      → (ImpliesIt B u v colour list listed number ↔ ((¬ LegalWith B u v colour) × ExactCircuit B u v colour list listed number))
-  implied-in-lists = Circuits.implied-iff-exact B u v colour sound hu hv
+      → (ImpliesIt B given list listed number ↔ ((¬ LegalWith B given) × ExactCircuit B given list listed number))
+  implied-in-lists = Circuits.implied-iff-exact B given sound hu hv
 
 -- ---- 4. An offer and a question
 
-module _ (B : Book) (u v colour : ℕ) (list listed : List ℕ) where
+module _ (B : Book) (given : Edge) (list listed : List ℕ) where
   -- `step::offer`, whatever it answers: kept, and the kept bars with the new one are legal; implied, and they are not, and the lent list has the
   -- circuit, exactly; or refused, and the lent list is as it was
-  pub offer-in-lists : (after : Book) (answer : Answer) → Offer B after u v colour list listed answer → SaysInLists B u v colour list listed answer
-  offer-in-lists = Exact.offer-says B u v colour list listed
+  pub offer-in-lists : (after : Book) (answer : Answer) → Offer B after given list listed answer → SaysInLists B given list listed answer
+  offer-in-lists = Exact.offer-says B given list listed
 
   -- `step::question`, the same
-  pub question-in-lists : (answer : Answer) → Question B u v colour list listed answer → SaysInLists B u v colour list listed answer
-  question-in-lists = Exact.question-says B u v colour list listed
+  pub question-in-lists : (answer : Answer) → Question B given list listed answer → SaysInLists B given list listed answer
+  question-in-lists = Exact.question-says B given list listed
 
   -- an offer that is not refused is kept, and its bars legal, or else implied, and they are not
-  module _ (after : Book) (answer : Answer) (taken : Taken answer) (offer : Offer B after u v colour list listed answer) where
-    pub offer-kept-or-implied : (IsKept answer × LegalWith B u v colour) ⊎ (IsImplied answer × (¬ LegalWith B u v colour))
-    offer-kept-or-implied = Exact.kept-or-implied B u v colour list listed answer taken (offer-in-lists after answer offer)
+  module _ (after : Book) (answer : Answer) (taken : Taken answer) (offer : Offer B after given list listed answer) where
+    pub offer-kept-or-implied : (IsKept answer × LegalWith B given) ⊎ (IsImplied answer × (¬ LegalWith B given))
+    offer-kept-or-implied = Exact.kept-or-implied B given list listed answer taken (offer-in-lists after answer offer)
 
-    pub offer-kept-exactly : IsKept answer ↔ LegalWith B u v colour
-    offer-kept-exactly = Exact.kept-exactly B u v colour list listed answer taken (offer-in-lists after answer offer)
+    pub offer-kept-exactly : IsKept answer ↔ LegalWith B given
+    offer-kept-exactly = Exact.kept-exactly B given list listed answer taken (offer-in-lists after answer offer)
 
-    pub offer-implied-exactly : IsImplied answer ↔ (¬ LegalWith B u v colour)
-    offer-implied-exactly = Exact.implied-exactly B u v colour list listed answer taken (offer-in-lists after answer offer)
+    pub offer-implied-exactly : IsImplied answer ↔ (¬ LegalWith B given)
+    offer-implied-exactly = Exact.implied-exactly B given list listed answer taken (offer-in-lists after answer offer)
 
   -- and so a question
-  module _ (answer : Answer) (taken : Taken answer) (question : Question B u v colour list listed answer) where
-    pub question-kept-or-implied : (IsKept answer × LegalWith B u v colour) ⊎ (IsImplied answer × (¬ LegalWith B u v colour))
-    question-kept-or-implied = Exact.kept-or-implied B u v colour list listed answer taken (question-in-lists answer question)
+  module _ (answer : Answer) (taken : Taken answer) (question : Question B given list listed answer) where
+    pub question-kept-or-implied : (IsKept answer × LegalWith B given) ⊎ (IsImplied answer × (¬ LegalWith B given))
+    question-kept-or-implied = Exact.kept-or-implied B given list listed answer taken (question-in-lists answer question)
 
-    pub question-kept-exactly : IsKept answer ↔ LegalWith B u v colour
-    question-kept-exactly = Exact.kept-exactly B u v colour list listed answer taken (question-in-lists answer question)
+    pub question-kept-exactly : IsKept answer ↔ LegalWith B given
+    question-kept-exactly = Exact.kept-exactly B given list listed answer taken (question-in-lists answer question)
 
-    pub question-implied-exactly : IsImplied answer ↔ (¬ LegalWith B u v colour)
-    question-implied-exactly = Exact.implied-exactly B u v colour list listed answer taken (question-in-lists answer question)
+    pub question-implied-exactly : IsImplied answer ↔ (¬ LegalWith B given)
+    question-implied-exactly = Exact.implied-exactly B given list listed answer taken (question-in-lists answer question)
 
   -- the list of an implied edge is its circuit: it ascends, and has exactly the edges of the circuit
   module _ (number : ℕ) where
-    pub offer-circuit-exactly : (after : Book) → Offer B after u v colour list listed (Implied number) → ExactCircuit B u v colour list listed number
+    pub offer-circuit-exactly : (after : Book) → Offer B after given list listed (Implied number) → ExactCircuit B given list listed number
     offer-circuit-exactly after offer = offer-in-lists after (Implied number) offer .1
 
-    pub question-circuit-exactly : Question B u v colour list listed (Implied number) → ExactCircuit B u v colour list listed number
+    pub question-circuit-exactly : Question B given list listed (Implied number) → ExactCircuit B given list listed number
     question-circuit-exactly question = question-in-lists (Implied number) question .1
 
 -- ---- 5. One answer
 
 -- what is said in lists leaves nothing open but moved: of two answers for one book, edge and lent list, both kept or both implied, the circuit, its
 -- length and every place of the list are the same
-pub says-determined : (B : Book) (u v colour : ℕ) (list listed lines : List ℕ) (x y : Answer) → Taken x → Taken y
-    → SaysInLists B u v colour list listed x → SaysInLists B u v colour list lines y → AnswersAgree (listed ≡ lines) (listed ≡ lines) x y
+pub says-determined : (B : Book) (given : Edge) (list listed lines : List ℕ) (x y : Answer) → Taken x → Taken y
+    → SaysInLists B given list listed x → SaysInLists B given list lines y → AnswersAgree (listed ≡ lines) (listed ≡ lines) x y
 says-determined = Exact.says-determined
 
 -- ---- 6. The rigid groups

@@ -41,19 +41,19 @@ keptBars B = keptBut B 0
 
 -- ---- an offered edge
 
-abbrev pub newBar : (u v colour : ℕ) → Bar
-newBar u v colour = record { one = u; other = v; red = eqb colour 1 }
+abbrev pub newBar : (given : Edge) → Bar
+newBar given = record { one = (given .one); other = (given .other); red = eqb (given .colour) 1 }
 
 -- "the kept edges with it are legal"
-abbrev pub LegalWith : Book → (u v colour : ℕ) → Type 0
-LegalWith B u v colour = LegalBars (B .a) (B .b) (B .n) (newBar u v colour ∷ keptBars B)
+abbrev pub LegalWith : Book → (given : Edge) → Type 0
+LegalWith B given = LegalBars (B .a) (B .b) (B .n) (newBar given ∷ keptBars B)
 
 -- one of "the set of kept edges y such that the kept edges without y, with the new edge added, are legal", "without the new edge's own" number
-pub record CircuitEdge (B : Book) (u v colour y : ℕ) : Type 0 where
+pub record CircuitEdge (B : Book) (given y : ℕ) : Type 0 where
   pub low : 1 ≤ y
   pub high : y ≤ B .count
   pub kept : 1 ≤ getD (B .forests) (y - 1) 0
-  pub legal-without : LegalBars (B .a) (B .b) (B .n) (newBar u v colour ∷ keptBut B y)
+  pub legal-without : LegalBars (B .a) (B .b) (B .n) (newBar given ∷ keptBut B y)
 
 -- "smallest first"
 abbrev pub Ascending : List ℕ → Type 0
@@ -61,23 +61,23 @@ Ascending [] = Unit
 Ascending (x ∷ rest) = ((y : ℕ) → Member y rest → x < y) × Ascending rest
 
 -- the list is the circuit, exactly
-pub record CircuitOf (B : Book) (u v colour : ℕ) (circuit : List ℕ) : Type 0 where
+pub record CircuitOf (B : Book) (given : Edge) (circuit : List ℕ) : Type 0 where
   pub ascending : Ascending circuit
-  pub members : (y : ℕ) → (Member y circuit ↔ CircuitEdge B u v colour y)
+  pub members : (y : ℕ) → (Member y circuit ↔ CircuitEdge B given y)
 
 -- the lent list holds the circuit in its first places, so many as the answer says; "places past the answer keep what they held"
-pub record ExactCircuit (B : Book) (u v colour : ℕ) (list listed : List ℕ) (number : ℕ) : Type 0 where
+pub record ExactCircuit (B : Book) (given : Edge) (list listed : List ℕ) (number : ℕ) : Type 0 where
   pub fits : number ≤ length list
   pub as-long : length listed ≡ length list
-  pub is-circuit : CircuitOf B u v colour (take number listed)
+  pub is-circuit : CircuitOf B given (take number listed)
   pub past : drop number listed ≡ drop number list
 
 -- "An offered edge is kept exactly when the kept edges with it are legal. Otherwise it is implied"; "a kept edge writes nothing to the lent
 -- list", nor does a refusal
-abbrev pub SaysInLists : Book → (u v colour : ℕ) (list listed : List ℕ) → Answer → Type 0
-SaysInLists B u v colour list listed (Kept moved) = LegalWith B u v colour × (listed ≡ list)
-SaysInLists B u v colour list listed (Implied number) = (¬ LegalWith B u v colour) × ExactCircuit B u v colour list listed number
-SaysInLists B u v colour list listed (Refused reason) = listed ≡ list
+abbrev pub SaysInLists : Book → (given : Edge) (list listed : List ℕ) → Answer → Type 0
+SaysInLists B given list listed (Kept moved) = LegalWith B given × (listed ≡ list)
+SaysInLists B given list listed (Implied number) = (¬ LegalWith B given) × ExactCircuit B given list listed number
+SaysInLists B given list listed (Refused reason) = listed ≡ list
 
 -- ---- rigid groups
 

@@ -20,7 +20,7 @@ use Rattle.rule.specs.declared.Judged.{Judged}
 use Rattle.rule.specs.Sets.{Set, In}
 use Rattle.rule.specs.Legal.{Keeps}
 use Rattle.rule.specs.Figures.{freedom, dropped}
-use Rattle.rule.specs.Books.{designOf, forestOf, keptOf, offered, next}
+use Rattle.rule.specs.Books.{Edge, designOf, forestOf, keptOf, offered, next}
 use Rattle.rule.specs.Reasons.{Check, Pass, Fail, openingChecks, questionChecks, offerChecks, bookChecks, groupsChecks}
 use Rattle.rule.specs.Calls.{ImpliesIt, OfferKept, OfferImplied, Offer, Question, Open, Freedom, Dropped, Judge, Grouped}
 use Rattle.rule.proofs.Tests.{in-split}
@@ -28,12 +28,12 @@ use Rattle.rule.proofs.Determined.{circuit-determined, groups-determine
 
 -- ---- the checks
 
-offer-single : (B : Book) (u v colour : ℕ) (list : List ℕ) → Single (offerChecks B u v colour list)
-offer-single B u v colour list =
+offer-single : (B : Book) (given : Edge) (list : List ℕ) → Single (offerChecks B given list)
+offer-single B given list =
     (place-single B, (nothing-single, (nothing-single, (nothing-single, (nothing-single, (nothing-single, tt))))))
 
-question-single : (B : Book) (u v colour : ℕ) (list : List ℕ) → Single (questionChecks B u v colour list)
-question-single B u v colour list = (place-single B, (nothing-single, (nothing-single, (nothing-single, (nothing-single, tt)))))
+question-single : (B : Book) (given : Edge) (list : List ℕ) → Single (questionChecks B given list)
+question-single B given list = (place-single B, (nothing-single, (nothing-single, (nothing-single, (nothing-single, tt)))))
 
 -- ---- opening
 
@@ -100,16 +100,16 @@ module _ (cs : List Check) (single : Single cs) (K kept others : Type 0) (P Q : 
 
 -- ---- an offer and a question
 
-module _ (B : Book) (u v colour : ℕ) (list : List ℕ) where
+module _ (B : Book) (given : Edge) (list : List ℕ) where
   -- the edge's circuit is one list, so its length and the lent list are determined
-  implied-determined : {listed lines : List ℕ} {c e : ℕ} → ImpliesIt B u v colour list listed c → ImpliesIt B u v colour list lines e
+  implied-determined : {listed lines : List ℕ} {c e : ℕ} → ImpliesIt B given list listed c → ImpliesIt B given list lines e
       → (c ≡ e) × (listed ≡ lines)
   implied-determined p q =
-      let same = circuit-determined (offered B u v colour) (keptOf B) (next B) (p .is-circuit) (q .is-circuit) in
+      let same = circuit-determined (offered B given) (keptOf B) (next B) (p .is-circuit) (q .is-circuit) in
       (p .number ∙ ap length same ∙ sym (q .number), p .fills ∙ ap (λ (z : List ℕ). z ++ drop (length z) list) same ∙ sym (q .fills))
 
-  same-but-forests : {after other : Book} {listed lines : List ℕ} {c e : ℕ} → OfferKept B after u v colour list listed c
-      → OfferKept B other u v colour list lines e → SameButForests (next B) after other
+  same-but-forests : {after other : Book} {listed lines : List ℕ} {c e : ℕ} → OfferKept B after given list listed c
+      → OfferKept B other given list lines e → SameButForests (next B) after other
   same-but-forests {after} {other} p q =
       record {
         a = p .adds .a ∙ sym (q .adds .a);
@@ -128,38 +128,38 @@ module _ (B : Book) (u v colour : ℕ) (list : List ℕ) where
         past = p .past ∙ sym (q .past);
       }
 
-  same-book : {after other : Book} {listed lines : List ℕ} {c e : ℕ} → OfferImplied B after u v colour list listed c
-      → OfferImplied B other u v colour list lines e → after ≡ other
+  same-book : {after other : Book} {listed lines : List ℕ} {c e : ℕ} → OfferImplied B after given list listed c
+      → OfferImplied B other given list lines e → after ≡ other
   same-book {after} {other} p q =
       book-eq after other (p .adds .a ∙ sym (q .adds .a)) (p .adds .b ∙ sym (q .adds .b)) (p .adds .n ∙ sym (q .adds .n))
       (p .adds .count ∙ sym (q .adds .count)) (p .adds .ones ∙ sym (q .adds .ones)) (p .adds .others ∙ sym (q .adds .others))
       (p .adds .colours ∙ sym (q .adds .colours)) (p .forests ∙ sym (q .forests))
 
   abbrev Kept? : Type 0
-  Kept? = Keeps (offered B u v colour) (keptOf B) (next B)
+  Kept? = Keeps (offered B given) (keptOf B) (next B)
 
-  offer-decides : (after : Book) (listed : List ℕ) → Decides (offerChecks B u v colour list) Kept? (Offer B after u v colour list listed)
+  offer-decides : (after : Book) (listed : List ℕ) → Decides (offerChecks B given list) Kept? (Offer B after given list listed)
   offer-decides after listed =
       record { kept = λ c p. (p .checked, p .says .keeps); implied = λ c p. (p .checked, p .says .implies); refused = λ r p. p .0 }
 
-  question-decides : (listed : List ℕ) → Decides (questionChecks B u v colour list) Kept? (Question B u v colour list listed)
+  question-decides : (listed : List ℕ) → Decides (questionChecks B given list) Kept? (Question B given list listed)
   question-decides listed =
       record { kept = λ c p. (p .checked, p .says .keeps); implied = λ c p. (p .checked, p .says .implies); refused = λ r p. p .0 }
 
-  pub offer-determined : (after other : Book) (listed lines : List ℕ) (x y : Answer) → Offer B after u v colour list listed x
-      → Offer B other u v colour list lines y
+  pub offer-determined : (after other : Book) (listed lines : List ℕ) (x y : Answer) → Offer B after given list listed x
+      → Offer B other given list lines y
       → AnswersAgree (SameButForests (next B) after other × (listed ≡ lines)) ((after ≡ other) × (listed ≡ lines)) x y
   offer-determined after other listed lines =
-      answers-agree (offerChecks B u v colour list) (offer-single B u v colour list) Kept? _ _ _ _ (offer-decides after listed)
+      answers-agree (offerChecks B given list) (offer-single B given list) Kept? _ _ _ _ (offer-decides after listed)
       (offer-decides other lines)
       (λ c e p q. (same-but-forests p q, p .unwritten ∙ sym (q .unwritten)))
       (λ c e p q. let w = implied-determined (p .says) (q .says) in (w .0, (same-book p q, w .1)))
       (λ r s p q. (p .1 ∙ sym (q .1), p .2 ∙ sym (q .2)))
 
-  pub question-determined : (listed lines : List ℕ) (x y : Answer) → Question B u v colour list listed x
-      → Question B u v colour list lines y → AnswersAgree (listed ≡ lines) (listed ≡ lines) x y
+  pub question-determined : (listed lines : List ℕ) (x y : Answer) → Question B given list listed x
+      → Question B given list lines y → AnswersAgree (listed ≡ lines) (listed ≡ lines) x y
   question-determined listed lines =
-      answers-agree (questionChecks B u v colour list) (question-single B u v colour list) Kept? _ _ _ _ (question-decides listed)
+      answers-agree (questionChecks B given list) (question-single B given list) Kept? _ _ _ _ (question-decides listed)
       (question-decides lines)
       (λ c e p q. p .unwritten ∙ sym (q .unwritten))
       (λ c e p q. implied-determined (p .says) (q .says))

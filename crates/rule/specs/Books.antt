@@ -1,6 +1,6 @@
 -- A book as a design, and when it is sound.
 --
--- In order: the design, the forests and the kept edges of a book; the ranges of document 01, "Sizes"; the
+-- In order: an edge as it is given; the design, the forests and the kept edges of a book; the ranges of document 01, "Sizes"; the
 -- rule of each place (0 the head, e edge e); sound, and the first place that breaks a rule; grown; a design with one edge more.
 use mathlib.Core.Path.{_≡_}
 use mathlib.Core.Logic.{_⊎_, _≢_}
@@ -9,6 +9,20 @@ use Rattle.rule.specs.declared.Book.{Book}
 use Rattle.rule.specs.Sets.{_=?_, Set, In, put, below, at}
 use Rattle.rule.specs.Legal.{Design, Grown}
 use Rattle.rule.specs.Forests.{Chain, inForest, keptIn, Permitted}
+
+-- ---- an edge
+
+-- an edge as it is given: its two bodies, and its colour
+pub record Edge : Type 0 where
+  pub one : ℕ
+  pub other : ℕ
+  pub colour : ℕ
+
+-- the edge between u and v of this colour
+abbrev pub theEdge : (u v colour : ℕ) → Edge
+theEdge u v colour = record { one = u; other = v; colour = colour }
+
+-- ---- a book
 
 unfoldable pub designOf : Book → Design
 designOf B =
@@ -87,16 +101,16 @@ GrownBook B = Grown (designOf B) (keptOf B)
 -- ---- one edge more
 
 -- the design with one edge more, between u and v
-unfoldable pub plus : Design → (u v colour : ℕ) → Design
-plus d u v colour =
+unfoldable pub plus : Design → Edge → Design
+plus d given =
     record {
       a = d .a;
       b = d .b;
       n = d .n;
       m = suc (d .m);
-      one = put (d .one) (suc (d .m)) u;
-      other = put (d .other) (suc (d .m)) v;
-      red = put (d .red) (suc (d .m)) (colour =? 1);
+      one = put (d .one) (suc (d .m)) (given .one);
+      other = put (d .other) (suc (d .m)) (given .other);
+      red = put (d .red) (suc (d .m)) (given .colour =? 1);
     }
 
 -- the number of the edge that is offered
@@ -104,5 +118,5 @@ abbrev pub next : Book → ℕ
 next B = suc (B .count)
 
 -- the design of a book with the offered edge. (A question may be asked of a full book: the offered edge needs no place in it.)
-abbrev pub offered : Book → (u v colour : ℕ) → Design
-offered B u v colour = plus (designOf B) u v colour
+abbrev pub offered : Book → Edge → Design
+offered B given = plus (designOf B) given

@@ -10,7 +10,7 @@ use Rattle.rule.specs.declared.Book.{Book}
 use Rattle.rule.specs.declared.Reason.{Reason}
 use Rattle.rule.specs.declared.Reason.the-variants.{Profile, Bodies, Body, SameBody, Colour, Full, Short, Unsound, Line}
 use Rattle.rule.specs.Sets.{In}
-use Rattle.rule.specs.Books.{ProfileRange, BodiesRange, ColourRange, capacity, Sound, FirstBad}
+use Rattle.rule.specs.Books.{Edge, ProfileRange, BodiesRange, ColourRange, capacity, Sound, FirstBad}
 
 abbrev pub numberOf : Reason → ℕ
 numberOf Profile = 1
@@ -83,13 +83,18 @@ abbrev pub openingChecks : (a b n : ℕ) → List Check
 openingChecks a b n = plain 1 (ProfileRange a b) ∷ plain 2 (BodiesRange n) ∷ []
 
 -- the question checks 8, 5, 3, 4, 7
-abbrev pub questionChecks : Book → (u v colour : ℕ) → List ℕ → List Check
-questionChecks B u v colour list =
-    soundness B ∷ plain 5 (ColourRange colour) ∷ plain 3 (In (B .n) u × In (B .n) v) ∷ plain 4 (u ≢ v) ∷ room circuitRoom list ∷ []
+abbrev pub questionChecks : Book → Edge → List ℕ → List Check
+questionChecks B given list =
+    soundness B
+    ∷ plain 5 (ColourRange (given .colour))
+    ∷ plain 3 (In (B .n) (given .one) × In (B .n) (given .other))
+    ∷ plain 4 (given .one ≢ given .other)
+    ∷ room circuitRoom list
+    ∷ []
 
 -- an offer checks the same, and 6
-abbrev pub offerChecks : Book → (u v colour : ℕ) → List ℕ → List Check
-offerChecks B u v colour list = questionChecks B u v colour list ++ plain 6 (B .count < capacity) ∷ []
+abbrev pub offerChecks : Book → Edge → List ℕ → List Check
+offerChecks B given list = questionChecks B given list ++ plain 6 (B .count < capacity) ∷ []
 
 -- every other call on a book checks 8, then 7 where a list is lent
 abbrev pub bookChecks : Book → List Check

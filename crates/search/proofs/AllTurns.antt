@@ -12,6 +12,7 @@ use lib.ListN.{getD}
 use Rattle.rule.specs.Sets.{_=?_, In, at}
 use Rattle.rule.specs.Legal.{Design, k}
 use Rattle.rule.specs.Forests.{limit}
+use Rattle.rule.specs.Books.{Edge, theEdge}
 use Rattle.rule.proofs.Tests.{is-false, lt-of, lt-is}
 use Rattle.theory.specs.Search.{Waiting, edgeAt, Result, andThen, pick, tryForests, turn, turns, search}
 use Rattle.theory.specs.Search.Result.{found, going}
@@ -20,16 +21,17 @@ use Rattle.theory.proofs.Search.Image.{size-most}
 use Rattle.reaching.specs.declared.Tried.the-variants.{Free, Waits}
 use Rattle.search.specs.declared.Outcome.the-variants.{Found, Stuck}
 use Rattle.reaching.specs.Trying.{Tells, Trying, After}
-use Rattle.search.specs.Given.{Edge, Given}
+use Rattle.search.specs.Given.{IsEdge, Given}
 use Rattle.search.specs.Answers.{Turned, Searched}
 use Rattle.reaching.proofs.Held.{held-edge, held-few}
 use Rattle.reaching.proofs.AllForests.{stays}
 
 -- the forests that an edge may stand in
-pub limit-is : {d : Design} {forest : ℕ → ℕ} {e u v colour own a k′ : ℕ} → Edge d forest e u v colour own → d .a ≡ a → k d ≡ k′
-    → limit d e ≡ cond (colour =? 1) a k′
+pub limit-is : {d : Design} {forest : ℕ → ℕ} {e : ℕ} {is : Edge} {own a k′ : ℕ} → IsEdge d forest e is own → d .a ≡ a → k d ≡ k′
+    → limit d e ≡ cond (is .colour =? 1) a k′
 unfolding limit
-limit-is {d = d} {colour = colour} {a = a} g qa qk = ap (λ (b : Bool). cond b (d .a) (k d)) (g .red) ∙ ap₂ (λ (x y : ℕ). cond (colour =? 1) x y) qa qk
+limit-is {d = d} {is = is} {a = a} g qa qk =
+    ap (λ (b : Bool). cond b (d .a) (k d)) (g .red) ∙ ap₂ (λ (x y : ℕ). cond (is .colour =? 1) x y) qa qk
 
 turn-taken : (d : Design) (forest : ℕ → ℕ) (q : ℕ) (w : Waiting) → q < size w → turn d forest q w ≡ tryForests d forest q (edgeAt w q) (limit d (edgeAt w q)) w
 unfolding turn
@@ -95,7 +97,7 @@ module _ {a k′ : ℕ} {ones others colours forests root way edge : List ℕ} (
           ∙ ap (λ (r : Result). andThen r (turn (g .d) (g .forest) q)) (s .is)
           ∙ turn-taken (g .d) (g .forest) q (s .waiting) (omega (arith, s .holds .0))
 
-      abbrev pub has-turn : {u v colour own : ℕ} → Edge (g .d) (g .forest) x u v colour own → Trying u v q n root way edge queue from seen
+      abbrev pub has-turn : {is : Edge} {own : ℕ} → IsEdge (g .d) (g .forest) x is own → Trying (is .one) (is .other) q n root way edge queue from seen
       has-turn e =
           record {
             d = g .d;
@@ -113,7 +115,7 @@ module _ {a k′ : ℕ} {ones others colours forests root way edge : List ℕ} (
             other = e .other;
           }
 
-      module _ {u v colour own last : ℕ} (e : Edge (g .d) (g .forest) x u v colour own) (limited : limit (g .d) x ≡ last) where
+      module _ {is : Edge} {own last : ℕ} (e : IsEdge (g .d) (g .forest) x is own) (limited : limit (g .d) x ≡ last) where
         tried : before (q + 1) ≡ tryForests (g .d) (g .forest) q x last (s .waiting)
         tried = this-turn ∙ ap (λ (j : ℕ). tryForests (g .d) (g .forest) q x j (s .waiting)) limited
 
@@ -139,10 +141,11 @@ module _ {a k′ : ℕ} {ones others colours forests root way edge : List ℕ} (
 
       -- what the arrays say of it
       pub edge-read : {u v own : ℕ} → 1 ≤ q → u ≡ getD ones (getD queue q 0 - 1) 0 → v ≡ getD others (getD queue q 0 - 1) 0
-          → own ≡ getD forests (getD queue q 0 - 1) 0 → Edge (g .d) (g .forest) x u v (getD colours (getD queue q 0 - 1) 0) own
+          → own ≡ getD forests (getD queue q 0 - 1) 0 → IsEdge (g .d) (g .forest) x (theEdge u v (getD colours (getD queue q 0 - 1) 0)) own
       unfolding at
       edge-read low is-one is-other is-own =
           let index : x ≡ suc (getD queue q 0 - 1) = omega (arith, queue-at q h, edge-range .low) in
-          let e : Edge (g .d) (g .forest) x (getD ones (getD queue q 0 - 1) 0) (getD others (getD queue q 0 - 1) 0) (getD colours (getD queue q 0 - 1) 0) (getD forests (getD queue q 0 - 1) 0) =
-          subst (λ (z : ℕ). Edge (g .d) (g .forest) x (at ones z) (at others z) (at colours z) (at forests z)) index (g .old x edge-range (earlier low)) in
+          let e : IsEdge (g .d) (g .forest) x (theEdge (getD ones (getD queue q 0 - 1) 0) (getD others (getD queue q 0 - 1) 0) (getD colours (getD queue q 0 - 1) 0))
+          (getD forests (getD queue q 0 - 1) 0) =
+          subst (λ (z : ℕ). IsEdge (g .d) (g .forest) x (theEdge (at ones z) (at others z) (at colours z)) (at forests z)) index (g .old x edge-range (earlier low)) in
           record { one = e .one ∙ sym is-one; other = e .other ∙ sym is-other; red = e .red; stands = e .stands ∙ sym is-own }

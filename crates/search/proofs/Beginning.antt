@@ -9,6 +9,7 @@ use lib.ListN.{length, set, replicate, length-set}
 use lib.Seq.{take-suc-set}
 use Rattle.rule.specs.Sets.{_=?_, In}
 use Rattle.rule.specs.Forests.{limit}
+use Rattle.rule.specs.Books.{Edge}
 use Rattle.rule.proofs.Tests.{is-false, eq-of}
 use Rattle.theory.specs.Search.{edgeAt, begin, turns, tryForests}
 use Rattle.theory.proofs.Search.Reached.{begin-reached}
@@ -19,12 +20,12 @@ use Rattle.reaching.specs.declared.Tried.{Tried}
 use Rattle.reaching.specs.declared.Tried.the-variants.{Free, Waits}
 use Rattle.reaching.specs.Trying.{Tells, Trying, After}
 use Rattle.search.specs.declared.Outcome.the-variants.{Found, Stuck}
-use Rattle.search.specs.Given.{Edge, Sought}
+use Rattle.search.specs.Given.{IsEdge, Sought}
 use Rattle.search.specs.Answers.{Turned}
 use Rattle.reaching.proofs.Bits.{zeros-at}
 use Rattle.search.proofs.AllTurns.{limit-is, has-turn, turn-ends, turn-goes}
 
-module _ {a k u v colour number : ℕ} {ones others colours forests root way edge : List ℕ} (s : Sought a k u v colour number ones others colours forests root way edge) where
+module _ {a k : ℕ} {is : Edge} {number : ℕ} {ones others colours forests root way edge : List ℕ} (s : Sought a k is number ones others colours forests root way edge) where
   -- the new edge is in no slot
   not-new : (f j : ℕ) → In 6 f → j < filled (s .given .size) f → ¬ (slot edge f j ≡ s .given .d .m)
   not-new f j h l q =
@@ -56,19 +57,19 @@ module _ {a k u v colour number : ℕ} {ones others colours forests root way edg
 
   -- ---- the turn of the new edge
 
-  module _ (queue from : List ℕ) (lq : length queue ≡ 379) (lf : length from ≡ 379) {last : ℕ} (is-last : last ≡ cond (colour =? 1) a k) where
+  module _ (queue from : List ℕ) (lq : length queue ≡ 379) (lf : length from ≡ 379) {last : ℕ} (is-last : last ≡ cond (is .colour =? 1) a k) where
     abbrev alone : Turned (s .given) (set queue 0 number) (set from 0 0) (replicate 6 0) 0 (Stuck 1)
     alone = begun queue from lq lf
 
-    new-first : Edge (s .given .d) (s .given .forest) (edgeAt (alone .waiting) 0) u v colour 0
+    new-first : IsEdge (s .given .d) (s .given .forest) (edgeAt (alone .waiting) 0) is 0
     new-first =
-        subst (λ (e : ℕ). Edge (s .given .d) (s .given .forest) e u v colour 0) (sym (alone .holds .1 .sound .first ∙ s .last)) (s .new)
+        subst (λ (e : ℕ). IsEdge (s .given .d) (s .given .forest) e is 0) (sym (alone .holds .1 .sound .first ∙ s .last)) (s .new)
 
     limited : limit (s .given .d) (edgeAt (alone .waiting) 0) ≡ last
     limited = limit-is new-first (s .given .for-red) (s .given .for-black) ∙ sym is-last
 
     abbrev pub Tries : Type 0
-    Tries = Trying u v 0 1 root way edge (set queue 0 number) (set from 0 0) (replicate 6 0)
+    Tries = Trying (is .one) (is .other) 0 1 root way edge (set queue 0 number) (set from 0 0) (replicate 6 0)
 
     abbrev new-tries : Tries
     new-tries = has-turn (s .given) 0 alone (omega arith) new-first

@@ -5,13 +5,14 @@ use mathlib.Core.List.{List}
 use Prim.Native.Nat.{ℕ}
 use Rattle.rule.specs.Sets.{_=?_, In, at}
 use Rattle.rule.specs.Legal.{Design, k}
+use Rattle.rule.specs.Books.{Edge, theEdge}
 use Rattle.reaching.specs.Setting.{Setting}
 
--- edge e joins u and v, is red where its colour is 1, and stands in the forest `own`
-pub record Edge (d : Design) (forest : ℕ → ℕ) (e u v colour own : ℕ) : Type 0 where
-  pub one : d .one e ≡ u
-  pub other : d .other e ≡ v
-  pub red : d .red e ≡ (colour =? 1)
+-- edge e of the design is this one, and stands in the forest `own`
+pub record IsEdge (d : Design) (forest : ℕ → ℕ) (e : ℕ) (is : Edge) (own : ℕ) : Type 0 where
+  pub one : d .one e ≡ is .one
+  pub other : d .other e ≡ is .other
+  pub red : d .red e ≡ (is .colour =? 1)
   pub stands : forest e ≡ own
 
 -- What a search is given, for some design: the numbers a and k = a + b, the arrays with the edges before the new one (edge e at index e - 1), and
@@ -24,10 +25,10 @@ pub record Given (a k′ : ℕ) (ones others colours forests root way edge : Lis
   pub setting : Setting d forest root way who edge size
   pub for-red : d .a ≡ a
   pub for-black : k d ≡ k′
-  pub old : (e : ℕ) → In (d .m) e → e ≢ d .m → Edge d forest e (at ones e) (at others e) (at colours e) (at forests e)
+  pub old : (e : ℕ) → In (d .m) e → e ≢ d .m → IsEdge d forest e (theEdge (at ones e) (at others e) (at colours e)) (at forests e)
 
--- and the new edge, between u and v, of a colour, with its number
-pub record Sought (a k′ u v colour number : ℕ) (ones others colours forests root way edge : List ℕ) : Type 0 where
+-- and the new edge, with its number
+pub record Sought (a k′ : ℕ) (sought : Edge) (number : ℕ) (ones others colours forests root way edge : List ℕ) : Type 0 where
   pub given : Given a k′ ones others colours forests root way edge
   pub last : given .d .m ≡ number
-  pub new : Edge (given .d) (given .forest) number u v colour 0
+  pub new : IsEdge (given .d) (given .forest) number sought 0

@@ -4,6 +4,7 @@ ghost use mathlib.Core.Bool.{cond};
 ghost use Prim.Native.Nat.{ℕ, _+_, _<_, _≤_};
 ghost use lib.ListN.{length, getD};
 ghost use Rattle.rule.specs.Sets.{Is, _=?_, numbers};
+ghost use Rattle.rule.specs.Books.{theEdge};
 ghost use Rattle.reaching.specs.Words.{Coming};
 ghost use Rattle.search.specs.Given.{Given, Sought};
 ghost use Rattle.search.specs.Answers.{Turned, Searched};
@@ -153,8 +154,8 @@ pub fn search(
     from: &mut [u16; 379],
 ) -> Outcome
     requires { ⌜ (length (now queue) ≡ 379) × (length (now from) ≡ 379)
-        × Sought a k u v colour number (now ones) (now others) (now colours) (now forests) (now root) (now way) (now edge) ⌝ }
-    ensures { λ r. ⌜ ((s : Sought a k u v colour number (now (ones .entry)) (now (others .entry)) (now (colours .entry)) (now (forests .entry)) (now (root .entry)) (now (way .entry)) (now (edge .entry)))
+        × Sought a k (theEdge u v colour) number (now ones) (now others) (now colours) (now forests) (now root) (now way) (now edge) ⌝ }
+    ensures { λ r. ⌜ ((s : Sought a k (theEdge u v colour) number (now (ones .entry)) (now (others .entry)) (now (colours .entry)) (now (forests .entry)) (now (root .entry)) (now (way .entry)) (now (edge .entry)))
         → Searched (s .given) (now (queue .exit)) (now (from .exit)) r) ⌝ }
 {
     queue[0] = number;

@@ -12,7 +12,7 @@ use Rattle.rule.specs.declared.Answer.the-variants.{Kept, Implied}
 use Rattle.rule.specs.declared.Reason.{Reason}
 use Rattle.rule.specs.Reasons.{offerChecks, questionChecks}
 use Rattle.rule.specs.Sets.{In}
-use Rattle.rule.specs.Books.{next, Sound, ColourRange}
+use Rattle.rule.specs.Books.{Edge, next, Sound, ColourRange}
 use Rattle.rule.specs.Calls.{KeepsIt, ImpliesIt, Offer, Question}
 use Rattle.theory.specs.Exchange.{shifted}
 use Rattle.theory.specs.Search.{pathTo}
@@ -27,21 +27,21 @@ use Rattle.step.specs.Answers.{answerOf, Askable}
 
 -- ---- the checks
 
-module _ (B : Book) (u v colour : ℕ) (list : List ℕ) (more : Type 0) (c : Checked) (reason : Reason) (q : c ≡ Checked.Refused reason) (answer : Answer)
+module _ (B : Book) (given : Edge) (list : List ℕ) (more : Type 0) (c : Checked) (reason : Reason) (q : c ≡ Checked.Refused reason) (answer : Answer)
     (handed : answer ≡ answerOf c) where
   is-refused : answer ≡ Answer.Refused reason
   is-refused = handed ∙ ap answerOf q
 
-  pub offer-refused : Found (offerChecks B u v colour list) more c → Offer B B u v colour list list answer
-  offer-refused f = subst (Offer B B u v colour list list) (sym is-refused) (subst (Found (offerChecks B u v colour list) more) q f, refl, refl)
+  pub offer-refused : Found (offerChecks B given list) more c → Offer B B given list list answer
+  offer-refused f = subst (Offer B B given list list) (sym is-refused) (subst (Found (offerChecks B given list) more) q f, refl, refl)
 
-  pub question-refused : Found (questionChecks B u v colour list) more c → Question B u v colour list list answer
-  question-refused f = subst (Question B u v colour list list) (sym is-refused) (subst (Found (questionChecks B u v colour list) more) q f, refl)
+  pub question-refused : Found (questionChecks B given list) more c → Question B given list list answer
+  question-refused f = subst (Question B given list list) (sym is-refused) (subst (Found (questionChecks B given list) more) q f, refl)
 
 -- ---- the search
 
-module _ (B : Book) (u v colour : ℕ) {list root way edge : List ℕ} (a : Askable B u v colour list root way edge) where
-  pub asks : Seekable B u v root way edge
+module _ (B : Book) (given : Edge) {list root way edge : List ℕ} (a : Askable B given list root way edge) where
+  pub asks : Seekable B (given .one) (given .other) root way edge
   asks =
       record {
         sound = a .checked .0;
@@ -52,36 +52,36 @@ module _ (B : Book) (u v colour : ℕ) {list root way edge : List ℕ} (a : Aska
         tabled = a .tabled;
       }
 
-  pub answers-kept : (path listed : List ℕ) (n f : ℕ) → Ends B u v colour path n f → listed ≡ list → Question B u v colour list listed (Kept n)
+  pub answers-kept : (path listed : List ℕ) (n f : ℕ) → Ends B given path n f → listed ≡ list → Question B given list listed (Kept n)
   answers-kept path listed n f e same =
       let s = asks in
       record {
         checked = a .checked;
         forest = shifted (forestsFor B) (next B ∷ pathTo (e .waiting) (e .place)) f;
         says =
-            subst (KeepsIt B u v colour (shifted (forestsFor B) (next B ∷ pathTo (e .waiting) (e .place)) f)) (sym (e .counts))
-            (found-says B u v colour (s .sound) (s .one) (s .other) (e .place) f (e .waiting) (e .is-found));
+            subst (KeepsIt B given (shifted (forestsFor B) (next B ∷ pathTo (e .waiting) (e .place)) f)) (sym (e .counts))
+            (found-says B given (s .sound) (s .one) (s .other) (e .place) f (e .waiting) (e .is-found));
         unwritten = same;
       }
 
-  pub answers-implied : (listed : List ℕ) (n : ℕ) → Fails B u v colour list listed n → Question B u v colour list listed (Implied n)
+  pub answers-implied : (listed : List ℕ) (n : ℕ) → Fails B given list listed n → Question B given list listed (Implied n)
   answers-implied listed n f =
       let s = asks in
       record {
         checked = a .checked;
         says =
-            subst (ImpliesIt B u v colour list listed) (sym (f .counts))
-            (stuck-says B u v colour (s .sound) (s .one) (s .other) (f .waiting) (f .is-stuck) list listed (f .fills) (f .as-long));
+            subst (ImpliesIt B given list listed) (sym (f .counts))
+            (stuck-says B given (s .sound) (s .one) (s .other) (f .waiting) (f .is-stuck) list listed (f .fills) (f .as-long));
       }
 
 -- ---- the book after an offer
 
-pub counted : (B : Book) (head : Head) (ones others colours forests : List ℕ) (u v colour : ℕ) (list listed : List ℕ) (answer : Answer) (m : ℕ)
-    → m ≡ suc (head .count) → Offer B (bookOf (longer head) ones others colours forests) u v colour list listed answer
-    → Offer B (bookOf (record { a = head .a; b = head .b; n = head .n; count = m }) ones others colours forests) u v colour list listed answer
-counted B head ones others colours forests u v colour list listed answer m q o =
+pub counted : (B : Book) (head : Head) (ones others colours forests : List ℕ) (given : Edge) (list listed : List ℕ) (answer : Answer) (m : ℕ)
+    → m ≡ suc (head .count) → Offer B (bookOf (longer head) ones others colours forests) given list listed answer
+    → Offer B (bookOf (record { a = head .a; b = head .b; n = head .n; count = m }) ones others colours forests) given list listed answer
+counted B head ones others colours forests given list listed answer m q o =
     subst
-    (λ (z : ℕ). Offer B (bookOf (record { a = head .a; b = head .b; n = head .n; count = z }) ones others colours forests) u v colour list listed answer)
+    (λ (z : ℕ). Offer B (bookOf (record { a = head .a; b = head .b; n = head .n; count = z }) ones others colours forests) given list listed answer)
     (sym q) o
 
 -- ---- the numbers of an edge that passed

@@ -8,7 +8,7 @@ use lib.ListN.{length, set, replicate, length-set, length-replicate}
 use Rattle.rule.specs.declared.Book.{Book}
 use Rattle.rule.specs.declared.Answer.{Answer}
 use Rattle.rule.specs.declared.Answer.the-variants.{Kept, Implied, Refused}
-use Rattle.rule.specs.Books.{designOf, ProfileRange, BodiesRange, HeadRule, Obeys, Sound, GrownBook}
+use Rattle.rule.specs.Books.{Edge, designOf, ProfileRange, BodiesRange, HeadRule, Obeys, Sound, GrownBook}
 use Rattle.rule.specs.Calls.{newBook, Adds, Offer}
 use Rattle.step.specs.Runs.{Run}
 use Rattle.step.specs.Runs.Run.{opened, offered}
@@ -51,28 +51,33 @@ new-grew a b n profile bodies = record { sound = sound; grown = λ e h. absurd (
 stored : (l k : List ℕ) (i v : ℕ) → k ≡ set l i v → length l ≡ 512 → length k ≡ 512
 stored l k i v q h = ap length q ∙ length-set l i v ∙ h
 
-adds-full : {before after : Book} {u v colour : ℕ} → Adds before after u v colour → length (after .forests) ≡ length (before .forests) → Full before → Full after
-adds-full {before} {after} {u} {v} {colour} a long full =
-    record { ones = stored (before .ones) (after .ones) (before .count) u (a .ones) (full .ones); others = stored (before .others) (after .others) (before .count) v (a .others) (full .others); colours = stored (before .colours) (after .colours) (before .count) colour (a .colours) (full .colours); forests = long ∙ full .forests }
-
-pub offer-grew : {before after : Book} (u v colour : ℕ) (list listed : List ℕ) (answer : Answer) → Offer before after u v colour list listed answer
-    → Grew before → Grew after
-offer-grew {before} {after} u v colour list listed (Kept c) o g =
+adds-full : {before after : Book} {given : Edge} → Adds before after given → length (after .forests) ≡ length (before .forests) → Full before → Full after
+adds-full {before} {after} {given} a long full =
     record {
-      sound = kept-sound before after u v colour list listed c (g .full) o;
-      grown = kept-grown before after u v colour list listed c (g .full) o (g .grown);
+      ones = stored (before .ones) (after .ones) (before .count) (given .one) (a .ones) (full .ones);
+      others = stored (before .others) (after .others) (before .count) (given .other) (a .others) (full .others);
+      colours = stored (before .colours) (after .colours) (before .count) (given .colour) (a .colours) (full .colours);
+      forests = long ∙ full .forests;
+    }
+
+pub offer-grew : {before after : Book} (given : Edge) (list listed : List ℕ) (answer : Answer) → Offer before after given list listed answer
+    → Grew before → Grew after
+offer-grew {before} {after} given list listed (Kept c) o g =
+    record {
+      sound = kept-sound before after given list listed c (g .full) o;
+      grown = kept-grown before after given list listed c (g .full) o (g .grown);
       full = adds-full (o .adds) (o .as-long) (g .full);
     }
-offer-grew {before} {after} u v colour list listed (Implied c) o g =
+offer-grew {before} {after} given list listed (Implied c) o g =
     record {
-      sound = implied-sound before after u v colour list listed c (g .full) o;
-      grown = implied-grown before after u v colour list listed c (g .full) o (g .grown);
+      sound = implied-sound before after given list listed c (g .full) o;
+      grown = implied-grown before after given list listed c (g .full) o (g .grown);
       full = adds-full (o .adds) (ap length (o .forests) ∙ length-set (before .forests) (before .count) 0) (g .full);
     }
-offer-grew u v colour list listed (Refused r) o g = subst Grew (sym (o .1)) g
+offer-grew given list listed (Refused r) o g = subst Grew (sym (o .1)) g
 
 -- ---- a run
 
 pub run-grew : {B : Book} → Run B → Grew B
 run-grew (opened a b n o) = subst Grew (sym (o .1)) (new-grew a b n (o .0 .0) (o .0 .1 .0))
-run-grew (offered u v colour list listed answer r o) = offer-grew u v colour list listed answer o (run-grew r)
+run-grew (offered given list listed answer r o) = offer-grew given list listed answer o (run-grew r)

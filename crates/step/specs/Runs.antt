@@ -7,7 +7,7 @@ use Rattle.rule.specs.declared.Book.{Book}
 use Rattle.rule.specs.declared.Answer.{Answer}
 use Rattle.rule.specs.declared.Answer.the-variants.{Kept, Implied, Refused}
 use Rattle.rule.specs.declared.Done.{Done}
-use Rattle.rule.specs.Books.{designOf, keptOf}
+use Rattle.rule.specs.Books.{Edge, designOf, keptOf}
 use Rattle.rule.specs.Calls.{Open, Offer}
 use Rattle.theory.specs.Order.{ImpliedBy}
 
@@ -20,9 +20,9 @@ Taken (Refused r) = ⊥
 -- the book was opened and then offered edges, whatever was answered
 pub data Run : Book → Type 0 where
   opened : {book : Book} (a b n : ℕ) → Open a b n book Done.Fine → Run book
-  offered : {before after : Book} (u v colour : ℕ) (list listed : List ℕ) (answer : Answer) → Run before
-      → Offer before after u v colour list listed answer → Run after
+  offered : {before after : Book} (given : Edge) (list listed : List ℕ) (answer : Answer) → Run before
+      → Offer before after given list listed answer → Run after
 
 -- an edge between u and v is implied by the book: with it the kept edges are not legal
-abbrev pub BookImplies : Book → (u v colour : ℕ) → Type 0
-BookImplies B u v colour = ImpliedBy (designOf B) (keptOf B) u v colour
+abbrev pub BookImplies : Book → (given : Edge) → Type 0
+BookImplies B given = ImpliedBy (designOf B) (keptOf B) given

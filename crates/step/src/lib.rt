@@ -4,6 +4,7 @@
 // Both check, and so scan the book, whose forests the tables then hold; then an offer takes the edge (crate placing), and a question
 // only seeks its place.
 ghost use mathlib.Core.Path.{_≡_};
+ghost use Rattle.rule.specs.Books.{theEdge};
 ghost use Rattle.rule.specs.Calls.{Offer, Question};
 ghost use Rattle.placing.specs.Take.{Takeable};
 ghost use Rattle.step.specs.Answers.{answerOf, Askable};
@@ -42,8 +43,8 @@ fn taken(
     size: &mut [u8; 6],
     list: &mut [u16],
 ) -> Offered
-    requires { ⌜ Takeable book u v colour (now list) (now root) (now way) (now who) (now edge) (now size) ⌝ }
-    ensures { λ r. ⌜ Offer book (r .book) u v colour (now (list .entry)) (now (list .exit)) (r .answer) ⌝ }
+    requires { ⌜ Takeable book (theEdge u v colour) (now list) (now root) (now way) (now who) (now edge) (now size) ⌝ }
+    ensures { λ r. ⌜ Offer book (r .book) (theEdge u v colour) (now (list .entry)) (now (list .exit)) (r .answer) ⌝ }
 {
     let head = Head {
         a: book.a,
@@ -96,7 +97,7 @@ fn taken(
 // The edge between u and v, of a colour, is offered to the book. Kept, it answers how many edges moved; implied, how many numbers its
 // circuit has, and the list holds them.
 pub fn offer(book: Book, u: usize, v: usize, colour: usize, list: &mut [u16]) -> Offered
-    ensures { λ r. ⌜ Offer book (r .book) u v colour (now (list .entry)) (now (list .exit)) (r .answer) ⌝ }
+    ensures { λ r. ⌜ Offer book (r .book) (theEdge u v colour) (now (list .entry)) (now (list .exit)) (r .answer) ⌝ }
 {
     let mut root = [0u8; 384];
     let mut way = [0u64; 384];
@@ -146,8 +147,8 @@ fn sought(
     edge: &[u16; 384],
     list: &mut [u16],
 ) -> Answer
-    requires { ⌜ Askable book u v colour (now list) (now root) (now way) (now edge) ⌝ }
-    ensures { λ r. ⌜ Question book u v colour (now (list .entry)) (now (list .exit)) r ⌝ }
+    requires { ⌜ Askable book (theEdge u v colour) (now list) (now root) (now way) (now edge) ⌝ }
+    ensures { λ r. ⌜ Question book (theEdge u v colour) (now (list .entry)) (now (list .exit)) r ⌝ }
 {
     let place = placing::place_for(book, u, v, colour, root, way, edge, list);
     match place {
@@ -158,7 +159,7 @@ fn sought(
 
 // What an offer would answer. The book stays as it is, and may be full.
 pub fn question(book: Book, u: usize, v: usize, colour: usize, list: &mut [u16]) -> Answer
-    ensures { λ r. ⌜ Question book u v colour (now (list .entry)) (now (list .exit)) r ⌝ }
+    ensures { λ r. ⌜ Question book (theEdge u v colour) (now (list .entry)) (now (list .exit)) r ⌝ }
 {
     let mut root = [0u8; 384];
     let mut way = [0u64; 384];

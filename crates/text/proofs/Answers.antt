@@ -10,8 +10,9 @@ use native.Mathlib.Numerals.{add-one}
 use lib.ListN.{length, getD, take, drop, length-append, take-append-drop}
 use lib.Seq.{take-length, take-suc, split-at, drop-append-add, drop-append-seam}
 use denote.Ref.{RefT, now}
+use Rattle.rule.specs.Books.{Edge}
 use Rattle.text.specs.declared.Judgement.{Judgement}
-use Rattle.text.specs.Sheets.{Edge, Sheet, EdgeRange, EdgesRange, SheetRange, edgeText, edgesText, headText, textOf}
+use Rattle.text.specs.Sheets.{Sheet, EdgeRange, EdgesRange, SheetRange, edgeText, edgesText, headText, textOf}
 use Rattle.text.specs.Due.{Written}
 use Rattle.text.specs.Faults.{Fault, FirstFault}
 use Rattle.text.specs.Readings.{readEdge}

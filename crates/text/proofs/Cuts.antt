@@ -15,9 +15,9 @@ use lib.ListN.{length, take, drop, length-append, length-drop, take-append-drop}
 use lib.Seq.{length-take-le, take-at, drop-append-le, take-append-le}
 use Rattle.rule.specs.declared.Reason.{Reason}
 use Rattle.rule.specs.Reasons.{Pass}
-use Rattle.rule.specs.Books.{capacity}
+use Rattle.rule.specs.Books.{Edge, capacity}
 use Rattle.text.specs.Lines.{firstLine, comma, numeral, listed, line, key-a, key-b, key-bodies, key-edges}
-use Rattle.text.specs.Sheets.{Edge, keyOf, edgeText}
+use Rattle.text.specs.Sheets.{keyOf, edgeText}
 use Rattle.text.specs.Due.{Said, nothing, to-a, to-b, to-bodies, to-edges, linesOf, Written, due}
 use Rattle.text.specs.Faults.{Next, Leads, here, one-line, Ended, Faulty, other, fails, Fault, FirstFault, RefusedAt}
 use Rattle.text.proofs.Numerals.{numeral-few}

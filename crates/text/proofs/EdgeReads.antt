@@ -10,14 +10,14 @@ use Prim.Native.Nat.{ℕ, _+_, _≤_, _<_}
 use native.Mathlib.Omega.{arith}
 use lib.ListN.{length, getD, drop, length-append, length-drop}
 use Rattle.rule.specs.Sets.{Is}
-use Rattle.rule.specs.Books.{ColourRange}
+use Rattle.rule.specs.Books.{Edge, ColourRange}
 use Rattle.rule.proofs.Tests.{cases}
 use Rattle.text.specs.declared.Reading.{Reading}
 use Rattle.text.specs.declared.Reading.the-variants.{Value, Nothing}
 use Rattle.text.specs.declared.EdgeLine.{EdgeLine}
 use Rattle.text.specs.declared.EdgeLine.the-variants.{Joins}
 use Rattle.text.specs.Lines.{numeral, Number, LF, comma, line, key-red, key-black}
-use Rattle.text.specs.Sheets.{Edge, keyOf, edgeText}
+use Rattle.text.specs.Sheets.{keyOf, edgeText}
 use Rattle.text.specs.Due.{Written}
 use Rattle.text.specs.Readings.{readField, beginsAt, otherEnd, oneEnd, readEnds, readEdge}
 use Rattle.text.proofs.Picks.{pick-is, pick-not, pick-eq, pick-ne}

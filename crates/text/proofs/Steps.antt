@@ -10,7 +10,7 @@ use native.Mathlib.Omega.{arith}
 use lib.ListN.{length, drop}
 use Rattle.rule.specs.declared.Reason.{Reason}
 use Rattle.rule.specs.declared.Reason.the-variants.{Profile, Bodies, Body, SameBody, Full}
-use Rattle.rule.specs.Books.{capacity}
+use Rattle.rule.specs.Books.{Edge, capacity}
 use Rattle.rule.specs.Reasons.{numberOf, placeOf, Check, plain, Pass, Fail}
 use Rattle.rule.proofs.Tests.{by-le, by-eq}
 use Rattle.rule.proofs.Determined.{Single, nothing-single}
@@ -19,7 +19,6 @@ use Rattle.text.specs.declared.Reading.the-variants.{Value, Nothing}
 use Rattle.text.specs.declared.EdgeLine.{EdgeLine}
 use Rattle.text.specs.declared.EdgeLine.the-variants.{Joins}
 use Rattle.text.specs.Lines.{key-a, key-b, key-bodies, key-edges}
-use Rattle.text.specs.Sheets.{Edge}
 use Rattle.text.specs.Due.{Said, nothing, to-a, to-b, to-bodies, to-edges, DueLine, numberLine, edgeLine, due}
 use Rattle.text.specs.Faults.{Next}
 use Rattle.text.specs.Readings.{readNumberLine, readEdge}

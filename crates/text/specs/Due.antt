@@ -6,10 +6,10 @@ use mathlib.Core.List.{List, [], _∷_, _++_}
 use Prim.Native.Nat.{ℕ, _+_, _≤_, _<_}
 use lib.ListN.{length}
 use Rattle.rule.specs.Sets.{In}
-use Rattle.rule.specs.Books.{ProfileRange, BodiesRange, ColourRange, capacity}
+use Rattle.rule.specs.Books.{Edge, ProfileRange, BodiesRange, ColourRange, capacity}
 use Rattle.rule.specs.Reasons.{Check, plain}
 use Rattle.text.specs.Lines.{Number, line, key-a, key-b, key-bodies, key-edges}
-use Rattle.text.specs.Sheets.{Edge, edgeText}
+use Rattle.text.specs.Sheets.{edgeText}
 
 -- what the lines before have said, in their order: nothing yet; a; a and b; those and the number of bodies; those, the
 -- number of edges, and the edges so far

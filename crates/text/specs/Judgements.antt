@@ -8,6 +8,7 @@ use mathlib.Core.List.{List, []}
 use Prim.Native.Nat.{ℕ, _+_, _≤_}
 use lib.ListN.{length, getD, take, drop}
 use denote.Ref.{RefT, now}
+use Rattle.rule.specs.Books.{Edge}
 use Rattle.rule.specs.declared.Reason.{Reason}
 use Rattle.text.specs.declared.Head.{Head}
 use Rattle.text.specs.declared.Found.{Found}
@@ -15,7 +16,7 @@ use Rattle.text.specs.declared.Judgement.{Judgement}
 use Rattle.text.specs.declared.EdgeLine.{EdgeLine}
 use Rattle.text.specs.declared.EdgeLine.the-variants.{Joins}
 use Rattle.text.specs.Lines.{firstLine}
-use Rattle.text.specs.Sheets.{Edge, Sheet, SheetRange, edgesText, headText, textOf}
+use Rattle.text.specs.Sheets.{Sheet, SheetRange, edgesText, headText, textOf}
 use Rattle.text.specs.Due.{nothing, to-edges}
 use Rattle.text.specs.Faults.{Leads, Fault, FirstFault, RefusedAt}
 

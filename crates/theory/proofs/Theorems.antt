@@ -18,7 +18,7 @@ use Rattle.rule.specs.Sets.{Is, _or_, Set, In, _with_, _without_, below, count,
 use Rattle.rule.specs.Legal.{Design, Ends, k, Legal, Keeps, Implies, InCircuit, Circuit, Grown}
 use Rattle.rule.specs.Forests.{limit, keptIn, Arranged, moved}
 use Rattle.rule.specs.Figures.{freedom, InGroup}
-use Rattle.rule.specs.Books.{designOf, keptOf, Sound, plus}
+use Rattle.rule.specs.Books.{Edge, designOf, keptOf, Sound, plus}
 use Rattle.rule.proofs.Counting.{Within}
 use Rattle.rule.proofs.Legality.{legal-sub}
 use Rattle.theory.specs.Rank.{rank, black, touched, pieces}
@@ -161,22 +161,22 @@ pub order-freedom : (d e : Design) (to fro : ℕ → ℕ) → Renumbered d e to 
 order-freedom = Order.order-freedom
 
 pub order-implies : (d e : Design) (to fro : ℕ → ℕ) → Renumbered d e to fro → Ends d → Ends e → (s t : Set) → Grown d s → Grown e t
-    → (u v colour : ℕ) → In (d .n) u → In (d .n) v → (ImpliedBy d s u v colour ↔ ImpliedBy e t u v colour)
+    → (given : Edge) → In (d .n) (given .one) → In (d .n) (given .other) → (ImpliedBy d s given ↔ ImpliedBy e t given)
 order-implies = Order.order-implies
 
-module _ (d : Design) (u v colour u′ v′ colour′ : ℕ) (s t : Set) (gs : Grown d s) (gt : Grown (plus d u′ v′ colour′) t) where
+module _ (d : Design) (x y : Edge) (s t : Set) (gs : Grown d s) (gt : Grown (plus d y) t) where
   -- adding an edge takes nothing out of what is implied
-  pub more-implied : ImpliedBy d s u v colour → ImpliedBy (plus d u′ v′ colour′) t u v colour
-  more-implied = Undo.more-implied d u v colour u′ v′ colour′ s t gs gt
+  pub more-implied : ImpliedBy d s x → ImpliedBy (plus d y) t x
+  more-implied = Undo.more-implied d x y s t gs gt
 
   -- adding an implied edge puts nothing in
-  pub implied-adds-none : ImpliedBy d s u′ v′ colour′ → ImpliedBy (plus d u′ v′ colour′) t u v colour → ImpliedBy d s u v colour
-  implied-adds-none = Undo.implied-adds-none d u v colour u′ v′ colour′ s t gs gt
+  pub implied-adds-none : ImpliedBy d s y → ImpliedBy (plus d y) t x → ImpliedBy d s x
+  implied-adds-none = Undo.implied-adds-none d x y s t gs gt
 
   -- if x is not implied but is once y is added, then y is implied once x is added in its place
-  pub exchange-law : (g : Set) → Grown (plus d u v colour) g → ¬ (ImpliedBy d s u v colour) → ImpliedBy (plus d u′ v′ colour′) t u v colour
-      → ImpliedBy (plus d u v colour) g u′ v′ colour′
-  exchange-law = Undo.exchange-law d u v colour u′ v′ colour′ s t gs gt
+  pub exchange-law : (g : Set) → Grown (plus d x) g → ¬ (ImpliedBy d s x) → ImpliedBy (plus d y) t x
+      → ImpliedBy (plus d x) g y
+  exchange-law = Undo.exchange-law d x y s t gs gt
 
 -- ---- 9. Circuits do not depend on later edges
 
@@ -193,12 +193,12 @@ module _ (d : Design) (ends : Ends d) (forest : ℕ → ℕ) (arr : Arranged d f
   group-iff = Sharing.group-iff d ends forest arr
 
   -- in context: a black edge is implied exactly when the greatest closed set joins its ends in each forest 1 to k, a red one in 1 to a
-  pub black-implied : (u v colour : ℕ) → In (d .n) u → In (d .n) v → colour ≢ 1
-      → (Implies (plus d u v colour) (keptIn d forest) (suc (d .m)) ↔ Is (joinedInAll d forest (core d forest) (k d) u v))
+  pub black-implied : (given : Edge) → In (d .n) (given .one) → In (d .n) (given .other) → given .colour ≢ 1
+      → (Implies (plus d given) (keptIn d forest) (suc (d .m)) ↔ Is (joinedInAll d forest (core d forest) (k d) (given .one) (given .other)))
   black-implied = Context.black-implied d ends forest arr
 
-  pub red-implied : (u v : ℕ) → In (d .n) u → In (d .n) v
-      → (Implies (plus d u v 1) (keptIn d forest) (suc (d .m)) ↔ Is (joinedInAll d forest (core d forest) (d .a) u v))
+  pub red-implied : (given : Edge) → In (d .n) (given .one) → In (d .n) (given .other) → given .colour ≡ 1
+      → (Implies (plus d given) (keptIn d forest) (suc (d .m)) ↔ Is (joinedInAll d forest (core d forest) (d .a) (given .one) (given .other)))
   red-implied = Context.red-implied d ends forest arr
 
   -- all three are equivalences, since joined in each of some forests is one

@@ -3,7 +3,7 @@ use mathlib.Core.Path.{_≡_}
 use Prim.Native.Nat.{ℕ, suc}
 use Rattle.rule.specs.Sets.{Set, In}
 use Rattle.rule.specs.Legal.{Design, Implies}
-use Rattle.rule.specs.Books.{plus}
+use Rattle.rule.specs.Books.{Edge, plus}
 
 -- e has the profile, the bodies and the edges of d, edge i of d being edge `to i` of e and edge j of e edge `fro j` of d
 pub record Renumbered (d e : Design) (to fro : ℕ → ℕ) : Type 0 where
@@ -19,5 +19,5 @@ pub record Renumbered (d e : Design) (to fro : ℕ → ℕ) : Type 0 where
   pub red : (i : ℕ) → In (d .m) i → e .red (to i) ≡ d .red i
 
 -- an edge between u and v is implied by a design of which the edges `kept` are kept
-abbrev pub ImpliedBy : Design → Set → (u v colour : ℕ) → Type 0
-ImpliedBy d kept u v colour = Implies (plus d u v colour) kept (suc (d .m))
+abbrev pub ImpliedBy : Design → Set → (given : Edge) → Type 0
+ImpliedBy d kept given = Implies (plus d given) kept (suc (d .m))

@@ -10,9 +10,9 @@ use native.Mathlib.Omega.{arith}
 use lib.ListN.{length, getD, length-append}
 use Rattle.rule.specs.declared.Book.{Book}
 use Rattle.rule.specs.Sets.{at}
-use Rattle.rule.specs.Books.{EdgeRule, Obeys, Sound}
+use Rattle.rule.specs.Books.{Edge, EdgeRule, Obeys, Sound}
 use Rattle.theory.proofs.Legal.Sound.{sound-head}
-use Rattle.text.specs.Sheets.{Edge, EdgeRange, EdgesRange, SheetRange, edgeText, edgesText, headText, textOf, textRoom}
+use Rattle.text.specs.Sheets.{EdgeRange, EdgesRange, SheetRange, edgeText, edgesText, headText, textOf, textRoom}
 use Rattle.text.proofs.SheetRuns.{edges-text-append}
 use Rattle.text.proofs.Sizes.{sheet-size}
 use Rattle.pages.specs.Reads.{edgeOf, edgesOf, sheetOf}

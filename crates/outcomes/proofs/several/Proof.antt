@@ -5,10 +5,10 @@ use Rattle.outcomes.proofs.several.Statement.{statement}
 use Rattle.outcomes.proofs.several.Tie as tie
 
 abbrev Inv-loop : tie.InvT-loop
-Inv-loop u v colour times next₀ i₀ next i = Unit
+Inv-loop given times next₀ i₀ next i = Unit
 
 abbrev μ-loop : tie.MeasureT-loop
-μ-loop u v colour times next₀ i₀ next i = times - i
+μ-loop given times next₀ i₀ next i = times - i
 
 pub several-spec : {M : Type 1} → statement M
 several-spec =

@@ -6,7 +6,7 @@ use Prim.Native.Nat.{ℕ, suc, _+_, _<_}
 use lib.ListN.{length}
 use native.Mathlib.Omega.{arith}
 use Rattle.rule.specs.declared.Book.{Book}
-use Rattle.rule.specs.Books.{offered, next}
+use Rattle.rule.specs.Books.{theEdge, offered, next}
 use Rattle.theory.specs.Search.{search as searching}
 use Rattle.theory.proofs.Legal.Sound.{sound-head}
 use Rattle.reaching.specs.Setting.{Holds}
@@ -30,7 +30,7 @@ add-number c = let few = sound-head (book (c .before .before .before .before)) (
 search-requires : tie.Need-search-requires
 search-requires c κs =
     let start = c .before .before .before .before .before .before in
-    (start .pre .0, start .pre .1, sought (book start) (start .args .u) (start .args .v) (start .args .colour) (start .pre .4) (start .args .head .count + 1) (omega arith))
+    (start .pre .0, start .pre .1, sought (book start) (theEdge (start .args .u) (start .args .v) (start .args .colour)) (start .pre .4) (start .args .head .count + 1) (omega arith))
 
 -- after the search
 abbrev start-of : tie.After-search → tie.Start
@@ -47,15 +47,15 @@ abbrev Come : tie.After-search → Outcome → Type 0
 Come c o =
     let start = start-of c in
     Answers (λ w. Holds w (queue-of c) (from-of c))
-    (searching (offered (book start) (start .args .u) (start .args .v) (start .args .colour)) (forestsFor (book start)) (next (book start))) o
+    (searching (offered (book start) (theEdge (start .args .u) (start .args .v) (start .args .colour))) (forestsFor (book start)) (next (book start))) o
 
 after-search : (c : tie.After-search) (s : Task (start-of c))
     → Come c (c .search .result)
 after-search c s =
     let start = start-of c in
     let fits : start .args .head .count + 1 ≡ suc (start .args .head .count) = omega arith in
-    searched (book start) (start .args .u) (start .args .v) (start .args .colour) s (start .args .head .count + 1) fits (queue-of c) (from-of c) (c .search .result)
-    (c .search .ensures (sought (book start) (start .args .u) (start .args .v) (start .args .colour) s (start .args .head .count + 1) fits))
+    searched (book start) (theEdge (start .args .u) (start .args .v) (start .args .colour)) s (start .args .head .count + 1) fits (queue-of c) (from-of c) (c .search .result)
+    (c .search .ensures (sought (book start) (theEdge (start .args .u) (start .args .v) (start .args .colour)) s (start .args .head .count + 1) fits))
 
 -- where it ended
 abbrev found-at : tie.After-known-told → tie.After-search
@@ -70,7 +70,7 @@ trail-requires c κs =
     let at = found-at told in
     let start = start-of at in
     let s = start .pre .4 in
-    (start .pre .2, led (book start) (start .args .u) (start .args .v) (start .args .colour) s _ _ (queue-of at) (from-of at) (found-come told s))
+    (start .pre .2, led (book start) (theEdge (start .args .u) (start .args .v) (start .args .colour)) s _ _ (queue-of at) (from-of at) (found-come told s))
 
 cast-t33 : tie.Need-cast-t33
 cast-t33 c =
@@ -78,23 +78,23 @@ cast-t33 c =
     let at = found-at told in
     let start = start-of at in
     let s = start .pre .4 in
-    let small = small-forest (book start) (start .args .u) (start .args .v) (start .args .colour) s _ _ (queue-of at) (from-of at) (found-come told s) in
+    let small = small-forest (book start) (theEdge (start .args .u) (start .args .v) (start .args .colour)) s _ _ (queue-of at) (from-of at) (found-come told s) in
     search (needs, small)
 
 abbrev path-of : tie.After-trail → List ℕ
 path-of c = c .trail .last .1 .1 .1 .0
 
 ends : (c : tie.After-trail) → let told = c .before .before .before .before in let start = start-of (found-at told) in Task start
-    → Ends (book start) (start .args .u) (start .args .v) (start .args .colour) (path-of c) (c .trail .result) (told .before .r .given .0 .1 .0)
+    → Ends (book start) (theEdge (start .args .u) (start .args .v) (start .args .colour)) (path-of c) (c .trail .result) (told .before .r .given .0 .1 .0)
     × (length (path-of c) ≡ 379)
 ends c s =
     let told = c .before .before .before .before in
     let at = found-at told in
     let start = start-of at in
     let come = found-come told s in
-    ends-there (book start) (start .args .u) (start .args .v) (start .args .colour) s _ _ (queue-of at) (from-of at) come (start .args .path .now) _ (c .trail .result)
+    ends-there (book start) (theEdge (start .args .u) (start .args .v) (start .args .colour)) s _ _ (queue-of at) (from-of at) come (start .args .path .now) _ (c .trail .result)
     (start .pre .2)
-    (c .trail .ensures (led (book start) (start .args .u) (start .args .v) (start .args .colour) s _ _ (queue-of at) (from-of at) come))
+    (c .trail .ensures (led (book start) (theEdge (start .args .u) (start .args .v) (start .args .colour)) s _ _ (queue-of at) (from-of at) come))
 
 returns : tie.Need-returns
 returns c =
@@ -116,21 +116,21 @@ circuit-requires c κs =
     let at = stuck-at told in
     let start = start-of at in
     let s = start .pre .4 in
-    (start .pre .3, waits (book start) (start .args .u) (start .args .v) (start .args .colour) s _ (queue-of at) (from-of at) (stuck-come told s))
+    (start .pre .3, waits (book start) (theEdge (start .args .u) (start .args .v) (start .args .colour)) s _ (queue-of at) (from-of at) (stuck-come told s))
 
 abbrev list-of : tie.After-circuit → List ℕ
 list-of c = c .circuit .last .1 .1 .0
 
 fails : (c : tie.After-circuit) → let start = start-of (stuck-at (c .before .before .before)) in Task start
-    → Fails (book start) (start .args .u) (start .args .v) (start .args .colour) (start .args .list .now) (list-of c) (c .circuit .result) × (c .circuit .result < 65536)
+    → Fails (book start) (theEdge (start .args .u) (start .args .v) (start .args .colour)) (start .args .list .now) (list-of c) (c .circuit .result) × (c .circuit .result < 65536)
 fails c s =
     let told = c .before .before .before in
     let at = stuck-at told in
     let start = start-of at in
     let come = stuck-come told s in
-    fails-there (book start) (start .args .u) (start .args .v) (start .args .colour) s _ (queue-of at) (from-of at) come (start .args .list .now) _
+    fails-there (book start) (theEdge (start .args .u) (start .args .v) (start .args .colour)) s _ (queue-of at) (from-of at) come (start .args .list .now) _
     (c .circuit .result) (c .circuit .kept .1 .1 .0)
-    (c .circuit .ensures (waits (book start) (start .args .u) (start .args .v) (start .args .colour) s _ (queue-of at) (from-of at) come))
+    (c .circuit .ensures (waits (book start) (theEdge (start .args .u) (start .args .v) (start .args .colour)) s _ (queue-of at) (from-of at) come))
 
 cast-t37 : tie.Need-cast-t37
 cast-t37 c =

@@ -4,6 +4,7 @@ use mathlib.Core.Path.{subst}
 use mathlib.Core.List.{List}
 use Prim.Native.Nat.{ℕ, _+_}
 use native.Mathlib.Omega.{arith}
+use Rattle.rule.specs.Books.{theEdge}
 use Rattle.rule.specs.declared.Book.{Book}
 use Rattle.placing.specs.declared.Place.{Place}
 use Rattle.placing.specs.declared.Place.the-variants.{Found, Stuck}
@@ -18,14 +19,14 @@ book c = bookOf (c .args .head) (c .args .ones .now) (c .args .others .now) (c .
 
 abbrev Task : tie.Start → Type 0
 Task c =
-    Takeable (book c) (c .args .u) (c .args .v) (c .args .colour) (c .args .list .now) (c .args .root .now) (c .args .way .now) (c .args .who .now) (c .args .edge .now)
+    Takeable (book c) (theEdge (c .args .u) (c .args .v) (c .args .colour)) (c .args .list .now) (c .args .root .now) (c .args .way .now) (c .args .who .now) (c .args .edge .now)
     (c .args .size .now)
 
 seek-requires : tie.Need-seek-requires
 seek-requires c κs =
     let start = c .before .before .before .before .before .before .before .before .before .before .before .before in
     let t = start .pre .3 in
-    (start .pre .0, start .pre .1, start .pre .2, t .checked .1 .1 .1 .1 .0, seekable (book start) (start .args .u) (start .args .v) (start .args .colour) t)
+    (start .pre .0, start .pre .1, start .pre .2, t .checked .1 .1 .1 .1 .0, seekable (book start) (theEdge (start .args .u) (start .args .v) (start .args .colour)) t)
 
 -- after the search
 abbrev start-of : tie.After-seek → tie.Start
@@ -40,17 +41,17 @@ listed-of c = c .seek .last .1 .1 .1 .1 .1 .1 .1 .1 .1 .1 .1 .1 .1 .1 .0
 abbrev Sought : tie.After-seek → Place → Type 0
 Sought c place =
     let start = start-of c in
-    Seeks (book start) (start .args .u) (start .args .v) (start .args .colour) (start .args .list .now) (path-of c) (listed-of c) place
+    Seeks (book start) (theEdge (start .args .u) (start .args .v) (start .args .colour)) (start .args .list .now) (path-of c) (listed-of c) place
 
 sought : (c : tie.After-seek) → Task (start-of c) → Sought c (c .seek .result)
-sought c t = c .seek .ensures .3 (seekable (book (start-of c)) (start-of c .args .u) (start-of c .args .v) (start-of c .args .colour) t)
+sought c t = c .seek .ensures .3 (seekable (book (start-of c)) (theEdge (start-of c .args .u) (start-of c .args .v) (start-of c .args .colour)) t)
 
 enter-requires : tie.Need-enter-requires
 enter-requires c κs =
     let start = start-of (c .before .before .before .before .before .before) in
     let t = start .pre .3 in
     let full = t .ready .full in
-    (room (book start) (start .args .u) (start .args .v) (start .args .colour) t, full .ones, full .others, full .colours, full .forests)
+    (room (book start) (theEdge (start .args .u) (start .args .v) (start .args .colour)) t, full .ones, full .others, full .colours, full .forests)
 
 -- after the edge was entered
 abbrev sought-at : tie.After-enter → tie.After-seek
@@ -67,7 +68,7 @@ found c t = subst (Sought (sought-at (found-at c))) (c .before .s .given .1) (so
 add-replant : tie.Need-add-replant
 add-replant c =
     let start = start-of (sought-at (found-at c)) in
-    let few = room (book start) (start .args .u) (start .args .v) (start .args .colour) (start .pre .3) in
+    let few = room (book start) (theEdge (start .args .u) (start .args .v) (start .args .colour)) (start .pre .3) in
     search (needs, few)
 
 replant-requires : tie.Need-replant-requires
@@ -76,7 +77,7 @@ replant-requires c κs =
     let at = sought-at (found-at told) in
     let start = start-of at in
     let t = start .pre .3 in
-    replanting (book start) (start .args .u) (start .args .v) (start .args .colour) t (found-at told .enter .ensures) (path-of at) _ _ (found told t .0)
+    replanting (book start) (theEdge (start .args .u) (start .args .v) (start .args .colour)) t (found-at told .enter .ensures) (path-of at) _ _ (found told t .0)
     (start .args .head .count + 1) (omega arith) (at .seek .ensures .2)
 
 cast-t42 : tie.Need-cast-t42
@@ -97,10 +98,10 @@ returns c =
       λ t.
           let goes = found told t in
           let entered = found-at told .enter .ensures in
-          takes-kept (book start) (start .args .u) (start .args .v) (start .args .colour) t entered (path-of at) (place .0) (place .1 .0) (goes .0)
+          takes-kept (book start) (theEdge (start .args .u) (start .args .v) (start .args .colour)) t entered (path-of at) (place .0) (place .1 .0) (goes .0)
           (start .args .head .count + 1) (omega arith) (at .seek .ensures .2) _ _ _ _ _ _
           (c .replant .ensures
-          (replanting (book start) (start .args .u) (start .args .v) (start .args .colour) t entered (path-of at) (place .0) (place .1 .0) (goes .0)
+          (replanting (book start) (theEdge (start .args .u) (start .args .v) (start .args .colour)) t entered (path-of at) (place .0) (place .1 .0) (goes .0)
           (start .args .head .count + 1) (omega arith) (at .seek .ensures .2)))
           (listed-of at) (goes .1),
     )
@@ -120,7 +121,7 @@ returns-2 c =
       at .seek .ensures .1,
       at .seek .ensures .2,
       λ t.
-          takes-implied (book start) (start .args .u) (start .args .v) (start .args .colour) t (stuck-at c .enter .ensures) (listed-of at) _ (stuck c t),
+          takes-implied (book start) (theEdge (start .args .u) (start .args .v) (start .args .colour)) t (stuck-at c .enter .ensures) (listed-of at) _ (stuck c t),
     )
 
 pub take-spec : {M : Type 1} → statement M

@@ -2,6 +2,7 @@
 use borrow.Author.Needs.{needs}
 use mathlib.Core.Path.{_≡_, subst}
 use Prim.Native.Nat.{ℕ}
+use Rattle.rule.specs.Books.{theEdge}
 use Rattle.reaching.specs.declared.Tried.the-variants.{Free, Waits}
 use Rattle.reaching.specs.Trying.{Tells}
 use Rattle.search.specs.declared.Outcome.{Outcome}
@@ -24,7 +25,7 @@ start c = c .before .before .before .before .before
 
 abbrev Task : tie.Start → Type 0
 Task c =
-    Sought (c .args .a) (c .args .k) (c .args .u) (c .args .v) (c .args .colour) (c .args .number) (c .args .ones .now) (c .args .others .now) (c .args .colours .now)
+    Sought (c .args .a) (c .args .k) (theEdge (c .args .u) (c .args .v) (c .args .colour)) (c .args .number) (c .args .ones .now) (c .args .others .now) (c .args .colours .now)
     (c .args .forests .now) (c .args .root .now) (c .args .way .now) (c .args .edge .now)
 
 abbrev Now : (c : tie.After-try-forests) → Task (start c) → Outcome → Type 0

@@ -5,10 +5,11 @@ use Prim.Native.Nat.{_-_, _<_, _≤_}
 use native.Mathlib.Omega.{arith}
 use lib.ListN.{getD}
 use Rattle.rule.specs.Forests.{limit}
+use Rattle.rule.specs.Books.{theEdge}
 use Rattle.theory.specs.Search.{edgeAt}
 use Rattle.reaching.specs.Trying.{Tells, Trying}
 use Rattle.search.specs.declared.Outcome.the-variants.{Stuck}
-use Rattle.search.specs.Given.{Edge, Given}
+use Rattle.search.specs.Given.{IsEdge, Given}
 use Rattle.search.specs.Answers.{Turned}
 use Rattle.search.proofs.AllTurns.{limit-is, few-waiting, queue-at, edge-range, earlier-edge, edge-read, has-turn, turn-ends, turn-goes}
 use Rattle.search.proofs.turn.Statement.{statement}
@@ -61,8 +62,9 @@ Task c =
 
 record Reads (c : tie.After-wide3) (t : Task (start c)) : Type 0 where
   edge :
-      Edge (t .0 .d) (t .0 .forest) (edgeAt (t .1 .waiting) (start c .args .place)) (c .before .before .wide2 .result) (c .wide3 .result)
-      (getD (start c .args .colours .now) (getD (start c .args .queue .now) (start c .args .place) 0 - 1) 0)
+      IsEdge (t .0 .d) (t .0 .forest) (edgeAt (t .1 .waiting) (start c .args .place))
+      (theEdge (c .before .before .wide2 .result) (c .wide3 .result)
+      (getD (start c .args .colours .now) (getD (start c .args .queue .now) (start c .args .place) 0 - 1) 0))
       (c .before .before .before .before .before .before .wide .result)
   last : limit (t .0 .d) (edgeAt (t .1 .waiting) (start c .args .place)) ≡ c .before .before .before .before .last-of .result
 

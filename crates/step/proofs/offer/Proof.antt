@@ -2,6 +2,7 @@
 use borrow.Author.Needs.{needs}
 use mathlib.Core.Path.{_≡_, refl}
 use lib.ListN.{length}
+use Rattle.rule.specs.Books.{theEdge}
 use Rattle.rule.specs.Reasons.{Pass, offerChecks}
 use Rattle.book.specs.Checks.{Holds}
 use Rattle.placing.specs.Take.{Full}
@@ -28,7 +29,7 @@ returns c =
     let at = told .before .before in
     let start = start-of at in
     let list = start .args .list .now in
-    offer-refused (start .args .book) (start .args .u) (start .args .v) (start .args .colour) list _ (at .offer-checks .result) _ (told .enum-told2 .given .1)
+    offer-refused (start .args .book) (theEdge (start .args .u) (start .args .v) (start .args .colour)) list _ (at .offer-checks .result) _ (told .enum-told2 .given .1)
     (c .refusal .result) (c .refusal .ensures) (at .offer-checks .ensures list refl)
 
 -- they passed
@@ -39,12 +40,12 @@ abbrev Held : tie.After-offer-checks → Type 0
 Held c = let last = c .offer-checks .last .1 .1 .1 .1 .1 in Holds (start-of c .args .book) (last .0) (last .1 .0) (last .1 .1 .0) (last .1 .1 .1 .0) (last .1 .1 .1 .1 .0)
 
 fine : (c : tie.After-enum-told) → let start = start-of (passed-at c) in
-    Pass (offerChecks (start .args .book) (start .args .u) (start .args .v) (start .args .colour) (start .args .list .now)) × Held (passed-at c)
+    Pass (offerChecks (start .args .book) (theEdge (start .args .u) (start .args .v) (start .args .colour)) (start .args .list .now)) × Held (passed-at c)
 fine c =
     let at = passed-at c in
     let start = start-of at in
     let list = start .args .list .now in
-    passed (offerChecks (start .args .book) (start .args .u) (start .args .v) (start .args .colour) list) _ (at .offer-checks .result) (c .enum-told .given .1)
+    passed (offerChecks (start .args .book) (theEdge (start .args .u) (start .args .v) (start .args .colour)) list) _ (at .offer-checks .result) (c .enum-told .given .1)
     (at .offer-checks .ensures list refl)
 
 cast-taken : tie.Need-cast-taken

@@ -1,6 +1,7 @@
 -- `step::question`: a refusal is handed on; else a place is sought.
 use borrow.Author.Needs.{needs}
 use mathlib.Core.Path.{refl}
+use Rattle.rule.specs.Books.{theEdge}
 use Rattle.rule.specs.Reasons.{Pass, questionChecks}
 use Rattle.book.specs.Checks.{Holds}
 use Rattle.book.proofs.Checks.{passed}
@@ -18,7 +19,7 @@ returns c =
     let at = told .before .before in
     let start = start-of at in
     let list = start .args .list .now in
-    question-refused (start .args .book) (start .args .u) (start .args .v) (start .args .colour) list _ (at .question-checks .result) _ (told .enum-told2 .given .1)
+    question-refused (start .args .book) (theEdge (start .args .u) (start .args .v) (start .args .colour)) list _ (at .question-checks .result) _ (told .enum-told2 .given .1)
     (c .refusal .result) (c .refusal .ensures) (at .question-checks .ensures list refl)
 
 -- they passed
@@ -29,12 +30,12 @@ abbrev Held : tie.After-question-checks → Type 0
 Held c = let last = c .question-checks .last .1 .1 .1 .1 .1 in Holds (start-of c .args .book) (last .0) (last .1 .0) (last .1 .1 .0) (last .1 .1 .1 .0) (last .1 .1 .1 .1 .0)
 
 fine : (c : tie.After-enum-told) → let start = start-of (passed-at c) in
-    Pass (questionChecks (start .args .book) (start .args .u) (start .args .v) (start .args .colour) (start .args .list .now)) × Held (passed-at c)
+    Pass (questionChecks (start .args .book) (theEdge (start .args .u) (start .args .v) (start .args .colour)) (start .args .list .now)) × Held (passed-at c)
 fine c =
     let at = passed-at c in
     let start = start-of at in
     let list = start .args .list .now in
-    passed (questionChecks (start .args .book) (start .args .u) (start .args .v) (start .args .colour) list) _ (at .question-checks .result) (c .enum-told .given .1)
+    passed (questionChecks (start .args .book) (theEdge (start .args .u) (start .args .v) (start .args .colour)) list) _ (at .question-checks .result) (c .enum-told .given .1)
     (at .question-checks .ensures list refl)
 
 cast-sought : tie.Need-cast-sought

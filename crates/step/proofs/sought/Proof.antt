@@ -3,6 +3,7 @@ use borrow.Author.Needs.{needs}
 use mathlib.Core.Path.{subst}
 use mathlib.Core.List.{List}
 use Prim.Native.Nat.{ℕ}
+use Rattle.rule.specs.Books.{theEdge}
 use Rattle.placing.specs.declared.Place.{Place}
 use Rattle.placing.specs.declared.Place.the-variants.{Found}
 use Rattle.placing.specs.Seek.{Seeks}
@@ -13,7 +14,7 @@ use Rattle.step.proofs.sought.Tie as tie
 place-for-requires : tie.Need-place-for-requires
 place-for-requires c κs =
     let start = c .before .before in
-    (start .pre .checked .1 .1 .1 .1 .0, asks (start .args .book) (start .args .u) (start .args .v) (start .args .colour) (start .pre))
+    (start .pre .checked .1 .1 .1 .1 .0, asks (start .args .book) (theEdge (start .args .u) (start .args .v) (start .args .colour)) (start .pre))
 
 -- after the search
 abbrev start-of : tie.After-place-for → tie.Start
@@ -25,7 +26,7 @@ listed-of c = c .place-for .last .1 .1 .1 .1 .1 .1 .1 .0
 abbrev Sought : tie.After-place-for → Place → Type 0
 Sought c place =
     let start = start-of c in
-    Seeks (start .args .book) (start .args .u) (start .args .v) (start .args .colour) (start .args .list .now) (c .place-for .ensures .0) (listed-of c) place
+    Seeks (start .args .book) (theEdge (start .args .u) (start .args .v) (start .args .colour)) (start .args .list .now) (c .place-for .ensures .0) (listed-of c) place
 
 -- a place was found
 abbrev found-at : tie.After-known-told → tie.After-place-for
@@ -43,14 +44,14 @@ returns : tie.Need-returns
 returns c =
     let at = found-at c in
     let start = start-of at in
-    answers-kept (start .args .book) (start .args .u) (start .args .v) (start .args .colour) (start .pre) (at .place-for .ensures .0) (listed-of at) _ _
+    answers-kept (start .args .book) (theEdge (start .args .u) (start .args .v) (start .args .colour)) (start .pre) (at .place-for .ensures .0) (listed-of at) _ _
     (found c .0) (found c .1)
 
 returns-2 : tie.Need-returns-2
 returns-2 c =
     let at = c .before .before .before .before .before in
     let start = start-of at in
-    answers-implied (start .args .book) (start .args .u) (start .args .v) (start .args .colour) (start .pre) (listed-of at) _
+    answers-implied (start .args .book) (theEdge (start .args .u) (start .args .v) (start .args .colour)) (start .pre) (listed-of at) _
     (subst (Sought at) (c .before .place2 .given .1) (at .place-for .ensures .1))
 
 pub sought-spec : {M : Type 1} → statement M

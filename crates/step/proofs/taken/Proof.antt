@@ -2,6 +2,7 @@
 use borrow.Author.Needs.{needs}
 use mathlib.Core.Path.{refl}
 use native.Mathlib.Omega.{arith}
+use Rattle.rule.specs.Books.{theEdge}
 use Rattle.step.proofs.Asked.{counted}
 use Rattle.step.proofs.taken.Statement.{statement}
 use Rattle.step.proofs.taken.Tie as tie
@@ -19,8 +20,8 @@ returns : tie.Need-returns
 returns c =
     let take = c .before .before .before in
     let start = take .before .before .before .before .before .before .before .before .before .before .before .before .before .before .before .before .before .before .before in
-    counted (start .args .book) (record { a = start .args .book .a; b = start .args .book .b; n = start .args .book .n; count = start .args .book .count }) _ _ _ _ (start .args .u) (start .args .v)
-    (start .args .colour) _ _ (take .take .result) _ (omega arith) (take .take .ensures .3 (start .pre) .offer)
+    counted (start .args .book) (record { a = start .args .book .a; b = start .args .book .b; n = start .args .book .n; count = start .args .book .count }) _ _ _ _
+    (theEdge (start .args .u) (start .args .v) (start .args .colour)) _ _ (take .take .result) _ (omega arith) (take .take .ensures .3 (start .pre) .offer)
 
 pub taken-spec : {M : Type 1} → statement M
 taken-spec = tie.close (tie.spec take-requires add-t35 (λ c. search needs) returns)

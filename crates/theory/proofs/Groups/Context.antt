@@ -13,7 +13,7 @@ use Rattle.rule.specs.Sets.{Is, _and_, _=?_, Set, In, _with_, _without_}
 use Rattle.rule.specs.Legal.{Design, Ends, k, Legal, Implies}
 use Rattle.rule.specs.Forests.{limit, keptIn, Arranged}
 use Rattle.rule.specs.Figures.{InGroup}
-use Rattle.rule.specs.Books.{plus}
+use Rattle.rule.specs.Books.{Edge, plus}
 use Rattle.rule.proofs.Tests.{is-false, and-make, and-l, and-r, eq-of, eq-is, in-one, with-elim, without-old, without-ne}
 use Rattle.rule.proofs.Counting.{Within, with-mono}
 use Rattle.theory.specs.Joined.{joined, spans}
@@ -42,20 +42,20 @@ module _ (d : Design) (ends : Ends d) (forest : ℕ → ℕ) (arr : Arranged d f
   pub in-all-fewer : (c : Set) (i j u v : ℕ) → i ≤ j → Is (joinedInAll d forest c j u v) → Is (joinedInAll d forest c i u v)
   in-all-fewer c i j u v l h = in-all-make d forest c i u v (λ z r. in-all-at d forest c j u v z h (omega arith))
 
-  module _ (u v colour : ℕ) (hu : In (d .n) u) (hv : In (d .n) v) where
+  module _ (given : Edge) (hu : In (d .n) (given .one)) (hv : In (d .n) (given .other)) where
     abbrev wide : Design
-    wide = plus d u v colour
+    wide = plus d given
 
     abbrev phi : ℕ → ℕ
     phi = unplacedNew d forest
 
-    wide-ends : Ends (plus d u v colour)
-    wide-ends = plus-ends d u v colour ends hu hv
+    wide-ends : Ends (plus d given)
+    wide-ends = plus-ends d given ends hu hv
 
-    wide-arr : Arranged (plus d u v colour) (unplacedNew d forest)
-    wide-arr = arranged-longer d u v colour forest arr
+    wide-arr : Arranged (plus d given) (unplacedNew d forest)
+    wide-arr = arranged-longer d given forest arr
 
-    new : In (plus d u v colour .m) (suc (d .m))
+    new : In (plus d given .m) (suc (d .m))
     unfolding plus
     new = omega arith
 
@@ -64,40 +64,40 @@ module _ (d : Design) (ends : Ends d) (forest : ℕ → ℕ) (arr : Arranged d f
     core-only e t = kept-most d forest e (greatest-kept d forest (limit d) e t)
 
     -- where the greatest closed set joins u and v
-    joined-implied : Is (joinedInAll d forest (core d forest) (limit wide (suc (d .m))) u v) → Implies wide (keptIn d forest) (suc (d .m))
+    joined-implied : Is (joinedInAll d forest (core d forest) (limit wide (suc (d .m))) (given .one) (given .other)) → Implies wide (keptIn d forest) (suc (d .m))
     unfolding core plus
     joined-implied h legal =
         closed-none wide wide-ends phi wide-arr (core d forest) (keptIn d forest with suc (d .m)) (suc (d .m))
-        (λ e _ t. subst (λ (s : Set). Is (s e)) (sym (kept-longer d u v colour forest)) (greatest-kept d forest (limit d) e t))
+        (λ e _ t. subst (λ (s : Set). Is (s e)) (sym (kept-longer d given forest)) (greatest-kept d forest (limit d) e t))
         (λ e he t.
         let old : In (d .m) e = omega (arith, he .low, core-only e t) in
-        covers-wide d u v colour forest (core d forest) core-only e old (greatest-closed d forest (limit d) e old t))
+        covers-wide d given forest (core d forest) core-only e old (greatest-closed d forest (limit d) e old t))
         new
         (λ t. omega (arith, core-only (suc (d .m)) t))
         (covers-make wide phi (limit wide) (core d forest) (suc (d .m))
-        (λ i r. spans-last d u v colour forest (core d forest) core-only i ∙ in-all-at d forest (core d forest) (limit wide (suc (d .m))) u v i h r))
+        (λ i r. spans-last d given forest (core d forest) core-only i ∙ in-all-at d forest (core d forest) (limit wide (suc (d .m))) (given .one) (given .other) i h r))
         legal
         (with-mono (suc (d .m)) (core d forest) (keptIn d forest) (suc (d .m)) (λ e _ t. greatest-kept d forest (limit d) e t))
 
     -- where the new edge is implied: what the search reached is closed and covers it
-    implied-joined : Implies wide (keptIn d forest) (suc (d .m)) → Is (joinedInAll d forest (core d forest) (limit wide (suc (d .m))) u v)
+    implied-joined : Implies wide (keptIn d forest) (suc (d .m)) → Is (joinedInAll d forest (core d forest) (limit wide (suc (d .m))) (given .one) (given .other))
     unfolding core plus
     implied-joined not = go (search wide phi (suc (d .m))) refl
       where
         none : phi (suc (d .m)) ≡ 0
-        none = phi-new d u v colour forest
+        none = phi-new d given forest
 
         kept-same : keptIn wide phi ≡ keptIn d forest
-        kept-same = kept-longer d u v colour forest
+        kept-same = kept-longer d given forest
 
-        go : (q : Result) → search wide phi (suc (d .m)) ≡ q → Is (joinedInAll d forest (core d forest) (limit wide (suc (d .m))) u v)
+        go : (q : Result) → search wide phi (suc (d .m)) ≡ q → Is (joinedInAll d forest (core d forest) (limit wide (suc (d .m))) (given .one) (given .other))
         go (found p i w) q =
             absurd (not (subst (λ (s : Set). Legal wide (s with suc (d .m))) kept-same (found-kept wide wide-ends phi wide-arr (suc (d .m)) new none p i w q)))
         go (going w) q =
-            in-all-mono seen (core d forest) (greatest-holds d forest (limit d) seen (λ e h t. kept e h t) closed) (limit wide (suc (d .m))) u v
-            (in-all-make d forest seen (limit wide (suc (d .m))) u v
+            in-all-mono seen (core d forest) (greatest-holds d forest (limit d) seen (λ e h t. kept e h t) closed) (limit wide (suc (d .m))) (given .one) (given .other)
+            (in-all-make d forest seen (limit wide (suc (d .m))) (given .one) (given .other)
             (λ i r.
-            sym (spans-last d u v colour forest seen only i)
+            sym (spans-last d given forest seen only i)
             ∙ covers-at wide phi (limit wide) seen (suc (d .m)) i (covers-agree (suc (d .m)) (stuck-covered wide wide-ends phi wide-arr (suc (d .m)) new none w q)) r))
           where
             -- what was reached, as far as it is kept
@@ -121,28 +121,28 @@ module _ (d : Design) (ends : Ends d) (forest : ℕ → ℕ) (arr : Arranged d f
 
             closed : Closed d forest (limit d) seen
             closed e h t =
-                covers-narrow d u v colour forest seen only e h
+                covers-narrow d given forest seen only e h
                 (covers-agree e (stuck-closed wide wide-ends phi wide-arr (suc (d .m)) new none w q e (in-one (d .m) e h) (and-l _ _ t)))
 
-    pub implied-iff : Implies (plus d u v colour) (keptIn d forest) (suc (d .m)) ↔ Is (joinedInAll d forest (core d forest) (limit (plus d u v colour) (suc (d .m))) u v)
+    pub implied-iff : Implies (plus d given) (keptIn d forest) (suc (d .m)) ↔ Is (joinedInAll d forest (core d forest) (limit (plus d given) (suc (d .m))) (given .one) (given .other))
     implied-iff = (implied-joined, joined-implied)
 
   -- a black edge is implied exactly when all k forests join its ends, a red one when the first a do
-  pub black-implied : (u v colour : ℕ) → In (d .n) u → In (d .n) v → colour ≢ 1
-      → (Implies (plus d u v colour) (keptIn d forest) (suc (d .m)) ↔ Is (joinedInAll d forest (core d forest) (k d) u v))
+  pub black-implied : (given : Edge) → In (d .n) (given .one) → In (d .n) (given .other) → given .colour ≢ 1
+      → (Implies (plus d given) (keptIn d forest) (suc (d .m)) ↔ Is (joinedInAll d forest (core d forest) (k d) (given .one) (given .other)))
   unfolding limit plus
-  black-implied u v colour hu hv ne =
-      subst (λ (j : ℕ). Implies (plus d u v colour) (keptIn d forest) (suc (d .m)) ↔ Is (joinedInAll d forest (core d forest) j u v))
-      (ap (λ (t : Bool). cond t (plus d u v colour .a) (k (plus d u v colour))) (new-red d u v colour ∙ is-false (colour =? 1) (λ t. ne (eq-of _ _ t))))
-      (implied-iff u v colour hu hv)
+  black-implied given hu hv ne =
+      subst (λ (j : ℕ). Implies (plus d given) (keptIn d forest) (suc (d .m)) ↔ Is (joinedInAll d forest (core d forest) j (given .one) (given .other)))
+      (ap (λ (t : Bool). cond t (plus d given .a) (k (plus d given))) (new-red d given ∙ is-false (given .colour =? 1) (λ t. ne (eq-of _ _ t))))
+      (implied-iff given hu hv)
 
-  pub red-implied : (u v : ℕ) → In (d .n) u → In (d .n) v
-      → (Implies (plus d u v 1) (keptIn d forest) (suc (d .m)) ↔ Is (joinedInAll d forest (core d forest) (d .a) u v))
+  pub red-implied : (given : Edge) → In (d .n) (given .one) → In (d .n) (given .other) → given .colour ≡ 1
+      → (Implies (plus d given) (keptIn d forest) (suc (d .m)) ↔ Is (joinedInAll d forest (core d forest) (d .a) (given .one) (given .other)))
   unfolding limit plus
-  red-implied u v hu hv =
-      subst (λ (j : ℕ). Implies (plus d u v 1) (keptIn d forest) (suc (d .m)) ↔ Is (joinedInAll d forest (core d forest) j u v))
-      (ap (λ (t : Bool). cond t (plus d u v 1 .a) (k (plus d u v 1))) (new-red d u v 1 ∙ eq-is 1 1 refl))
-      (implied-iff u v 1 hu hv)
+  red-implied given hu hv red =
+      subst (λ (j : ℕ). Implies (plus d given) (keptIn d forest) (suc (d .m)) ↔ Is (joinedInAll d forest (core d forest) j (given .one) (given .other)))
+      (ap (λ (t : Bool). cond t (plus d given .a) (k (plus d given))) (new-red d given ∙ eq-is (given .colour) 1 red))
+      (implied-iff given hu hv)
 
   -- ---- every rigid group lies in one class of each
 

@@ -9,7 +9,7 @@ use native.Mathlib.Omega.{arith}
 use Rattle.rule.specs.Sets.{Is, Set, In, put, _without_}
 use Rattle.rule.specs.Legal.{Design, k}
 use Rattle.rule.specs.Forests.{limit, inForest, keptIn, Permitted, Arranged}
-use Rattle.rule.specs.Books.{plus}
+use Rattle.rule.specs.Books.{Edge, plus}
 use Rattle.rule.proofs.Tests.{same-test, by-eq, by-le, in-split, put-same, put-other, without-old}
 use Rattle.rule.proofs.Counting.{Within}
 use Rattle.theory.specs.Joined.{joined, spans}
@@ -25,9 +25,9 @@ use Rattle.theory.proofs.Laws.Plus.{plus-red}
 abbrev pub unplacedNew : Design → (ℕ → ℕ) → ℕ → ℕ
 unplacedNew d forest = put forest (suc (d .m)) 0
 
-module _ (d : Design) (u v colour : ℕ) (forest : ℕ → ℕ) where
+module _ (d : Design) (given : Edge) (forest : ℕ → ℕ) where
   abbrev wide : Design
-  wide = plus d u v colour
+  wide = plus d given
 
   abbrev phi : ℕ → ℕ
   phi = unplacedNew d forest
@@ -38,9 +38,9 @@ module _ (d : Design) (u v colour : ℕ) (forest : ℕ → ℕ) where
   pub phi-new : unplacedNew d forest (suc (d .m)) ≡ 0
   phi-new = put-same forest (suc (d .m)) 0
 
-  pub limit-old : (e : ℕ) → In (d .m) e → limit (plus d u v colour) e ≡ limit d e
+  pub limit-old : (e : ℕ) → In (d .m) e → limit (plus d given) e ≡ limit d e
   unfolding limit plus
-  limit-old e h = ap (λ (t : Bool). cond t (d .a) (k d)) (plus-red d u v colour e (omega arith))
+  limit-old e h = ap (λ (t : Bool). cond t (d .a) (k d)) (plus-red d given e (omega arith))
 
   -- the new edge is in no forest
   none-new : (i : ℕ) → 1 ≤ i → ¬ (Is (inForest phi i (suc (d .m))))
@@ -53,19 +53,19 @@ module _ (d : Design) (u v colour : ℕ) (forest : ℕ → ℕ) where
   forest-same i e h t = forest-make phi i e (phi-old e h ∙ forest-is forest i e t)
 
   -- each forest joins what it joined, also without an edge of it
-  pub joined-forest : (i : ℕ) → 1 ≤ i → (x y : ℕ) → joined (plus d u v colour) (inForest (unplacedNew d forest) i) x y ≡ joined d (inForest forest i) x y
+  pub joined-forest : (i : ℕ) → 1 ≤ i → (x y : ℕ) → joined (plus d given) (inForest (unplacedNew d forest) i) x y ≡ joined d (inForest forest i) x y
   joined-forest i l x y =
-      joined-longer d u v colour (inForest phi i) (none-new i l) x y
+      joined-longer d given (inForest phi i) (none-new i l) x y
       ∙ joined-agree d (inForest phi i) (inForest forest i) (same-forest i) (forest-same i) x y
 
   pub joined-forest-without : (i : ℕ) → 1 ≤ i → (e x y : ℕ)
-      → joined (plus d u v colour) (inForest (unplacedNew d forest) i without e) x y ≡ joined d (inForest forest i without e) x y
+      → joined (plus d given) (inForest (unplacedNew d forest) i without e) x y ≡ joined d (inForest forest i without e) x y
   joined-forest-without i l e x y =
-      joined-longer d u v colour (inForest phi i without e) (λ t. none-new i l (without-old (inForest phi i) e (suc (d .m)) t)) x y
+      joined-longer d given (inForest phi i without e) (λ t. none-new i l (without-old (inForest phi i) e (suc (d .m)) t)) x y
       ∙ joined-agree d (inForest phi i without e) (inForest forest i without e)
       (without-mono d (inForest phi i) (inForest forest i) e (same-forest i)) (without-mono d (inForest forest i) (inForest phi i) e (forest-same i)) x y
 
-  pub arranged-longer : Arranged d forest → Arranged (plus d u v colour) (unplacedNew d forest)
+  pub arranged-longer : Arranged d forest → Arranged (plus d given) (unplacedNew d forest)
   unfolding Permitted plus
   arranged-longer arr =
       record {
@@ -76,12 +76,12 @@ module _ (d : Design) (u v colour : ℕ) (forest : ℕ → ℕ) where
         loopless =
             λ i h.
             acyclic-loopless wide (inForest phi i)
-            (acyclic-longer d u v colour (inForest phi i) (none-new i (h .low))
+            (acyclic-longer d given (inForest phi i) (none-new i (h .low))
             (acyclic-sub d (inForest phi i) (inForest forest i) (same-forest i)
             (loopless-acyclic d (inForest forest i) (arr .loopless i h))));
       }
 
-  pub kept-longer : keptIn (plus d u v colour) (unplacedNew d forest) ≡ keptIn d forest
+  pub kept-longer : keptIn (plus d given) (unplacedNew d forest) ≡ keptIn d forest
   unfolding plus
   kept-longer =
       fun-ext
@@ -110,18 +110,18 @@ module _ (d : Design) (u v colour : ℕ) (forest : ℕ → ℕ) where
         (λ e h t. standing-make forest c i e (standing-in phi c i e t) (forest-make forest i e (sym (phi-old e h) ∙ forest-is phi i e (standing-forest phi c i e t))))
         (λ e h t. standing-make phi c i e (standing-in forest c i e t) (forest-make phi i e (phi-old e h ∙ forest-is forest i e (standing-forest forest c i e t))))
 
-    pub spans-old : (i e : ℕ) → In (d .m) e → spans (plus d u v colour) (standing (unplacedNew d forest) c i) e ≡ spans d (standing forest c i) e
+    pub spans-old : (i e : ℕ) → In (d .m) e → spans (plus d given) (standing (unplacedNew d forest) c i) e ≡ spans d (standing forest c i) e
     unfolding spans
-    spans-old i e h = spans-longer d u v colour (standing phi c i) (no-new i) e h ∙ standing-old i (d .one e) (d .other e)
+    spans-old i e h = spans-longer d given (standing phi c i) (no-new i) e h ∙ standing-old i (d .one e) (d .other e)
 
-    pub spans-last : (i : ℕ) → spans (plus d u v colour) (standing (unplacedNew d forest) c i) (suc (d .m)) ≡ joined d (standing forest c i) u v
-    spans-last i = spans-new d u v colour (standing phi c i) (no-new i) ∙ standing-old i u v
+    pub spans-last : (i : ℕ) → spans (plus d given) (standing (unplacedNew d forest) c i) (suc (d .m)) ≡ joined d (standing forest c i) (given .one) (given .other)
+    spans-last i = spans-new d given (standing phi c i) (no-new i) ∙ standing-old i (given .one) (given .other)
 
-    pub covers-wide : (e : ℕ) → In (d .m) e → Is (covers d forest (limit d) c e) → Is (covers (plus d u v colour) (unplacedNew d forest) (limit (plus d u v colour)) c e)
+    pub covers-wide : (e : ℕ) → In (d .m) e → Is (covers d forest (limit d) c e) → Is (covers (plus d given) (unplacedNew d forest) (limit (plus d given)) c e)
     covers-wide e h t =
         covers-make wide phi (limit wide) c e (λ i r. spans-old i e h ∙ covers-at d forest (limit d) c e i t (subst (λ (z : ℕ). In z i) (limit-old e h) r))
 
-    pub covers-narrow : (e : ℕ) → In (d .m) e → Is (covers (plus d u v colour) (unplacedNew d forest) (limit (plus d u v colour)) c e) → Is (covers d forest (limit d) c e)
+    pub covers-narrow : (e : ℕ) → In (d .m) e → Is (covers (plus d given) (unplacedNew d forest) (limit (plus d given)) c e) → Is (covers d forest (limit d) c e)
     covers-narrow e h t =
         covers-make d forest (limit d) c e
         (λ i r. sym (spans-old i e h) ∙ covers-at wide phi (limit wide) c e i t (subst (λ (z : ℕ). In z i) (sym (limit-old e h)) r))

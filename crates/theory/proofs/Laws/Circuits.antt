@@ -15,7 +15,7 @@ use native.Mathlib.Omega.{arith}
 use Rattle.rule.specs.Sets.{Is, Set, In, _with_, _without_, below}
 use Rattle.rule.specs.Legal.{Design, Ends, Legal, InCircuit, Circuit, Grown}
 use Rattle.rule.specs.Forests.{keptIn}
-use Rattle.rule.specs.Books.{plus}
+use Rattle.rule.specs.Books.{Edge, plus}
 use Rattle.rule.proofs.Tests.{cases, by-le, in-split, put-other, with-elim, without-old, without-ne, without-make, below-in, below-lt, below-make}
 use Rattle.rule.proofs.Counting.{Within, with-mono, Agree, numbers-eq}
 use Rattle.rule.proofs.Legality.{legal-sub}
@@ -124,7 +124,7 @@ circuit-agree d s t e list same c =
 
 -- ---- one edge more
 
-module _ (d : Design) (u v colour : ℕ) (s : Set) (e : ℕ) (h : In (d .m) e) (old : ¬ (Is (s (suc (d .m))))) where
+module _ (d : Design) (given : Edge) (s : Set) (e : ℕ) (h : In (d .m) e) (old : ¬ (Is (s (suc (d .m))))) where
   -- a set of old edges
   old-edges : (y i : ℕ) → In (suc (d .m)) i → Is ((s without y with e) i) → In (d .m) i
   old-edges y i hi t =
@@ -133,13 +133,13 @@ module _ (d : Design) (u v colour : ℕ) (s : Set) (e : ℕ) (h : In (d .m) e) (
       ⊎-elim (λ l. absurd (omega (arith, h .high)))
       (λ k. absurd (old (subst (λ (z : ℕ). Is (s z)) q (without-old s y i k)))) (with-elim (s without y) e i t))
 
-  circuit-both : (y : ℕ) → InCircuit d s e y ↔ InCircuit (plus d u v colour) s e y
+  circuit-both : (y : ℕ) → InCircuit d s e y ↔ InCircuit (plus d given) s e y
   circuit-both y = (
-    (λ c. (c .0, legal-longer d u v colour (s without y with e) (s without y with e) (λ i hi t. (old-edges y i hi t, t)) (c .1))),
-    (λ c. (c .0, legal-shorter d u v colour (s without y with e) (s without y with e) (λ i _ t. t) (c .1))),
+    (λ c. (c .0, legal-longer d given (s without y with e) (s without y with e) (λ i hi t. (old-edges y i hi t, t)) (c .1))),
+    (λ c. (c .0, legal-shorter d given (s without y with e) (s without y with e) (λ i _ t. t) (c .1))),
   )
 
-  pub circuit-longer : (list : List ℕ) → Circuit d s e list → Circuit (plus d u v colour) s e list
+  pub circuit-longer : (list : List ℕ) → Circuit d s e list → Circuit (plus d given) s e list
   unfolding plus
   circuit-longer list c =
       let new = suc (d .m) in
@@ -153,7 +153,7 @@ module _ (d : Design) (u v colour : ℕ) (s : Set) (e : ℕ) (h : In (d .m) e) (
             (λ r.
             Iff·trans ((λ t. same i r ∙ t), (λ t. sym (same i r) ∙ t)) (Iff·trans (c .exactly i r) (circuit-both i)))
             (λ q.
-            subst (λ (z : ℕ). Is (chosen z) ↔ InCircuit (plus d u v colour) s e z) (sym q)
+            subst (λ (z : ℕ). Is (chosen z) ↔ InCircuit (plus d given) s e z) (sym q)
             ((λ t. absurd (without-ne (c .chosen) new new t refl)), (λ k. absurd (old (k .0)))));
         in-order =
             c .in-order

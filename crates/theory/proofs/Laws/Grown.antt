@@ -8,7 +8,7 @@ use Prim.Native.Nat.{ℕ, zero, suc, _≤_, _<_}
 use native.Mathlib.Omega.{arith}
 use Rattle.rule.specs.Sets.{Is, Set, In, put, _with_, below, count}
 use Rattle.rule.specs.Legal.{Design, Ends, Legal, Keeps, Implies, Grown}
-use Rattle.rule.specs.Books.{plus}
+use Rattle.rule.specs.Books.{Edge, plus}
 use Rattle.rule.proofs.Tests.{cases, never, same-test, by-eq, in-one, in-split, put-same, put-other, with-self, with-old, with-elim, without-old, below-in, below-lt, below-make}
 use Rattle.rule.proofs.Counting.{Within, with-mono, Agree, count-eq}
 use Rattle.rule.proofs.Legality.{legal-sub}
@@ -141,33 +141,33 @@ module _ (d : Design) (s t : Set) (f : Agree (d .m) s t) where
       (with-elim (below t (suc (d .m))) (suc (d .m)) e i))
       (λ q. subst (λ (z : ℕ). Is ((s with suc (d .m)) z)) (sym q) (with-self s (suc (d .m))))
 
-module _ (d : Design) (u v colour : ℕ) (k l : Set) (gk : Grown d k) where
+module _ (d : Design) (given : Edge) (k l : Set) (gk : Grown d k) where
   -- the kept set of the longer design: the old edges as before, and the new one exactly when it may be kept
-  pub grown-longer : Agree (d .m) k l → (Is (l (suc (d .m))) ↔ Keeps (plus d u v colour) k (suc (d .m))) → Grown (plus d u v colour) l
+  pub grown-longer : Agree (d .m) k l → (Is (l (suc (d .m))) ↔ Keeps (plus d given) k (suc (d .m))) → Grown (plus d given) l
   unfolding plus
   grown-longer same new e h =
       in-split (d .m) e h
       (λ r.
       let old = gk e r in (
-        (λ t. keeps-longer d u v colour l e r (keeps-same d k l e (λ f hf _. same f hf) (old .0 (same e r ∙ t)))),
-        (λ p. sym (same e r) ∙ old .1 (keeps-same d l k e (λ f hf _. sym (same f hf)) (keeps-shorter d u v colour l e r p))),
+        (λ t. keeps-longer d given l e r (keeps-same d k l e (λ f hf _. same f hf) (old .0 (same e r ∙ t)))),
+        (λ p. sym (same e r) ∙ old .1 (keeps-same d l k e (λ f hf _. sym (same f hf)) (keeps-shorter d given l e r p))),
       ))
       (λ q.
-      subst (λ (z : ℕ). Is (l z) ↔ Keeps (plus d u v colour) (below l z) z) (sym q) (
-        (λ t. legal-sub (plus d u v colour) (below l (suc (d .m)) with suc (d .m)) (k with suc (d .m)) (below-whole d k l same) (new .0 t)),
-        (λ p. new .1 (legal-sub (plus d u v colour) (k with suc (d .m)) (below l (suc (d .m)) with suc (d .m)) (whole-with d k l same) p)),
+      subst (λ (z : ℕ). Is (l z) ↔ Keeps (plus d given) (below l z) z) (sym q) (
+        (λ t. legal-sub (plus d given) (below l (suc (d .m)) with suc (d .m)) (k with suc (d .m)) (below-whole d k l same) (new .0 t)),
+        (λ p. new .1 (legal-sub (plus d given) (k with suc (d .m)) (below l (suc (d .m)) with suc (d .m)) (whole-with d k l same) p)),
       ))
 
-  module _ (gl : Grown (plus d u v colour) l) where
+  module _ (gl : Grown (plus d given) l) where
     -- the old edges are kept as before
     pub old-kept : Agree (d .m) k l
-    old-kept = grown-determined d k l gk (grown-shorter d u v colour l gl)
+    old-kept = grown-determined d k l gk (grown-shorter d given l gl)
 
     -- the new one is kept exactly when it may be
-    pub new-kept : Is (l (suc (d .m))) ↔ Keeps (plus d u v colour) k (suc (d .m))
+    pub new-kept : Is (l (suc (d .m))) ↔ Keeps (plus d given) k (suc (d .m))
     unfolding plus
     new-kept =
         let r = gl (suc (d .m)) (omega arith) in (
-          (λ t. legal-sub (plus d u v colour) (k with suc (d .m)) (below l (suc (d .m)) with suc (d .m)) (whole-with d k l old-kept) (r .0 t)),
-          (λ p. r .1 (legal-sub (plus d u v colour) (below l (suc (d .m)) with suc (d .m)) (k with suc (d .m)) (below-whole d k l old-kept) p)),
+          (λ t. legal-sub (plus d given) (k with suc (d .m)) (below l (suc (d .m)) with suc (d .m)) (whole-with d k l old-kept) (r .0 t)),
+          (λ p. r .1 (legal-sub (plus d given) (below l (suc (d .m)) with suc (d .m)) (k with suc (d .m)) (below-whole d k l old-kept) p)),
         )

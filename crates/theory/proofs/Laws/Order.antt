@@ -14,7 +14,7 @@ use native.Mathlib.Omega.{arith}
 use Rattle.rule.specs.Sets.{Is, Set, In, _with_, one-if, count}
 use Rattle.rule.specs.Legal.{Design, Ends, Legal, Keeps, Grown}
 use Rattle.rule.specs.Figures.{freedom}
-use Rattle.rule.specs.Books.{plus}
+use Rattle.rule.specs.Books.{Edge, plus}
 use Rattle.rule.proofs.Tests.{never, with-self, with-old, with-elim}
 use Rattle.rule.proofs.Counting.{count-eq}
 use Rattle.theory.specs.Order.{Renumbered, ImpliedBy}
@@ -94,11 +94,11 @@ order-freedom d e to fro r ends-d ends-e k h gk gh =
 -- ---- one edge more in both orders
 
 -- the edge more is counted exactly when it is kept
-count-plus : (d : Design) (u v colour : ℕ) (k l : Set) → Grown d k → Grown (plus d u v colour) l
+count-plus : (d : Design) (given : Edge) (k l : Set) → Grown d k → Grown (plus d given) l
     → count l (suc (d .m)) ≡ count k (d .m) + one-if (l (suc (d .m)))
 unfolding count
-count-plus d u v colour k l gk gl =
-    ap (λ (z : ℕ). z + one-if (l (suc (d .m)))) (count-eq l k (d .m) (λ i h. sym (old-kept d u v colour k l gk gl i h)))
+count-plus d given k l gk gl =
+    ap (λ (z : ℕ). z + one-if (l (suc (d .m)))) (count-eq l k (d .m) (λ i h. sym (old-kept d given k l gk gl i h)))
 
 one-if-eq : (a b : Bool) → one-if a ≡ one-if b → Is a → Is b
 one-if-eq true true q h = refl
@@ -106,36 +106,36 @@ one-if-eq true false q h = absurd (omega arith)
 one-if-eq false b q h = never h
 
 module _ (d e : Design) (to fro : ℕ → ℕ) (r : Renumbered d e to fro) (ends-d : Ends d) (ends-e : Ends e) (k h : Set) (gk : Grown d k)
-    (gh : Grown e h) (u v colour : ℕ) (hu : In (d .n) u) (hv : In (d .n) v) where
+    (gh : Grown e h) (given : Edge) (hu : In (d .n) (given .one)) (hv : In (d .n) (given .other)) where
   -- kept in the one, then kept in the other
-  keeps-same : Keeps (plus d u v colour) k (suc (d .m)) → Keeps (plus e u v colour) h (suc (e .m))
+  keeps-same : Keeps (plus d given) k (suc (d .m)) → Keeps (plus e given) h (suc (e .m))
   unfolding plus
   keeps-same p =
-      let ends-d′ : Ends (plus d u v colour) = plus-ends d u v colour ends-d hu hv in
-      let ends-e′ : Ends (plus e u v colour) =
-      plus-ends e u v colour ends-e (subst (λ (z : ℕ). In z u) (r .n) hu) (subst (λ (z : ℕ). In z v) (r .n) hv) in
-      let l = grown-exists (plus d u v colour) ends-d′ in
-      let g = grown-exists (plus e u v colour) ends-e′ in
+      let ends-d′ : Ends (plus d given) = plus-ends d given ends-d hu hv in
+      let ends-e′ : Ends (plus e given) =
+      plus-ends e given ends-e (subst (λ (z : ℕ). In z (given .one)) (r .n) hu) (subst (λ (z : ℕ). In z (given .other)) (r .n) hv) in
+      let l = grown-exists (plus d given) ends-d′ in
+      let g = grown-exists (plus e given) ends-e′ in
       let same : count (l .0) (suc (d .m)) ≡ count (g .0) (suc (e .m)) =
-      order-count (plus d u v colour) (plus e u v colour) _ _ (renumbered-plus d e to fro r u v colour) ends-d′ ends-e′ (l .0) (g .0) (l .1) (g .1) in
-      new-kept e u v colour h (g .0) gh (g .1) .0
+      order-count (plus d given) (plus e given) _ _ (renumbered-plus d e to fro r given) ends-d′ ends-e′ (l .0) (g .0) (l .1) (g .1) in
+      new-kept e given h (g .0) gh (g .1) .0
       (one-if-eq (l .0 (suc (d .m))) (g .0 (suc (e .m)))
       (omega (
         arith,
         same,
         order-count d e to fro r ends-d ends-e k h gk gh,
-        count-plus d u v colour k (l .0) gk (l .1),
-        count-plus e u v colour h (g .0) gh (g .1),
+        count-plus d given k (l .0) gk (l .1),
+        count-plus e given h (g .0) gh (g .1),
       ))
-      (new-kept d u v colour k (l .0) gk (l .1) .1 p))
+      (new-kept d given k (l .0) gk (l .1) .1 p))
 
 -- what is implied does not depend on the order
 pub order-implies : (d e : Design) (to fro : ℕ → ℕ) → Renumbered d e to fro → Ends d → Ends e → (k h : Set) → Grown d k → Grown e h
-    → (u v colour : ℕ) → In (d .n) u → In (d .n) v → (ImpliedBy d k u v colour ↔ ImpliedBy e h u v colour)
-order-implies d e to fro r ends-d ends-e k h gk gh u v colour hu hv = (
+    → (given : Edge) → In (d .n) (given .one) → In (d .n) (given .other) → (ImpliedBy d k given ↔ ImpliedBy e h given)
+order-implies d e to fro r ends-d ends-e k h gk gh given hu hv = (
   (λ not p.
       not
-      (keeps-same e d fro to (renumbered-back d e to fro r) ends-e ends-d h k gh gk u v colour (subst (λ (z : ℕ). In z u) (r .n) hu)
-      (subst (λ (z : ℕ). In z v) (r .n) hv) p)),
-  (λ not p. not (keeps-same d e to fro r ends-d ends-e k h gk gh u v colour hu hv p)),
+      (keeps-same e d fro to (renumbered-back d e to fro r) ends-e ends-d h k gh gk given (subst (λ (z : ℕ). In z (given .one)) (r .n) hu)
+      (subst (λ (z : ℕ). In z (given .other)) (r .n) hv) p)),
+  (λ not p. not (keeps-same d e to fro r ends-d ends-e k h gk gh given hu hv p)),
 )

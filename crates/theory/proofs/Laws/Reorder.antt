@@ -12,7 +12,7 @@ use Prim.Native.Nat.{ℕ, suc}
 use native.Mathlib.Omega.{arith}
 use Rattle.rule.specs.Sets.{_=?_, In, put}
 use Rattle.rule.specs.Legal.{Design}
-use Rattle.rule.specs.Books.{plus}
+use Rattle.rule.specs.Books.{Edge, plus}
 use Rattle.rule.proofs.Tests.{in-one, in-split, put-same, put-other}
 use Rattle.theory.specs.Order.{Renumbered}
 use Rattle.theory.proofs.Laws.Plus.{plus-one, plus-other, plus-red, new-one, new-other, new-red}
@@ -83,37 +83,37 @@ looks-as p q i j a b c l m = record { one = m .one ∙ sym (l .one); other = m .
 pub looks-back : (p q : Design) (i j : ℕ) → LooksAs p q i j → LooksAs q p j i
 looks-back p q i j l = record { one = sym (l .one); other = sym (l .other); red = sym (l .red) }
 
-module _ (d : Design) (u v colour : ℕ) where
+module _ (d : Design) (x : Edge) where
   -- an old edge looks as it did
-  pub looks-old : (i : ℕ) → In (d .m) i → LooksAs d (plus d u v colour) i i
+  pub looks-old : (i : ℕ) → In (d .m) i → LooksAs d (plus d x) i i
   looks-old i h =
-      record { one = plus-one d u v colour i (omega arith); other = plus-other d u v colour i (omega arith); red = plus-red d u v colour i (omega arith) }
+      record { one = plus-one d x i (omega arith); other = plus-other d x i (omega arith); red = plus-red d x i (omega arith) }
 
-  pub looks-new : Looks (plus d u v colour) (suc (d .m)) u v (colour =? 1)
-  looks-new = record { one = new-one d u v colour; other = new-other d u v colour; red = new-red d u v colour }
+  pub looks-new : Looks (plus d x) (suc (d .m)) (x .one) (x .other) (x .colour =? 1)
+  looks-new = record { one = new-one d x; other = new-other d x; red = new-red d x }
 
 -- of two edges more, the old edges, the first and the second
-module _ (d : Design) (u v colour u′ v′ colour′ : ℕ) where
+module _ (d : Design) (x y : Edge) where
   abbrev one-more : Design
-  one-more = plus d u v colour
+  one-more = plus d x
 
-  pub looks-oldest : (i : ℕ) → In (d .m) i → LooksAs d (plus (plus d u v colour) u′ v′ colour′) i i
+  pub looks-oldest : (i : ℕ) → In (d .m) i → LooksAs d (plus (plus d x) y) i i
   unfolding plus
   looks-oldest i h =
-      let old = looks-old d u v colour i h in
-      let kept = looks-old one-more u′ v′ colour′ i (in-one (d .m) i h) in
+      let old = looks-old d x i h in
+      let kept = looks-old one-more y i (in-one (d .m) i h) in
       record { one = kept .one ∙ old .one; other = kept .other ∙ old .other; red = kept .red ∙ old .red }
 
-  pub looks-first : Looks (plus (plus d u v colour) u′ v′ colour′) (suc (d .m)) u v (colour =? 1)
+  pub looks-first : Looks (plus (plus d x) y) (suc (d .m)) (x .one) (x .other) (x .colour =? 1)
   unfolding plus
   looks-first =
-      let new = looks-new d u v colour in
-      let kept = looks-old one-more u′ v′ colour′ (suc (d .m)) (omega arith) in
+      let new = looks-new d x in
+      let kept = looks-old one-more y (suc (d .m)) (omega arith) in
       record { one = kept .one ∙ new .one; other = kept .other ∙ new .other; red = kept .red ∙ new .red }
 
-  pub looks-second : Looks (plus (plus d u v colour) u′ v′ colour′) (suc (suc (d .m))) u′ v′ (colour′ =? 1)
+  pub looks-second : Looks (plus (plus d x) y) (suc (suc (d .m))) (y .one) (y .other) (y .colour =? 1)
   unfolding plus
-  looks-second = looks-new one-more u′ v′ colour′
+  looks-second = looks-new one-more y
 
 -- ---- one edge more in both orders
 
@@ -124,28 +124,28 @@ next-cases f m n P old new i h =
     in-split m i h (λ k. subst (P i) (sym (put-other f (suc m) (suc n) i (omega arith))) (old i k))
     (λ q. subst (λ (z : ℕ). P z (put f (suc m) (suc n) z)) (sym q) (subst (P (suc m)) (sym (put-same f (suc m) (suc n))) new))
 
-module _ (d e : Design) (to fro : ℕ → ℕ) (r : Renumbered d e to fro) (u v colour : ℕ) where
+module _ (d e : Design) (to fro : ℕ → ℕ) (r : Renumbered d e to fro) (x : Edge) where
   abbrev to-last : ℕ → ℕ
   to-last = put to (suc (d .m)) (suc (e .m))
 
   abbrev fro-last : ℕ → ℕ
   fro-last = put fro (suc (e .m)) (suc (d .m))
 
-  looks-last : (i : ℕ) → In (suc (d .m)) i → LooksAs (plus d u v colour) (plus e u v colour) i (put to (suc (d .m)) (suc (e .m)) i)
+  looks-last : (i : ℕ) → In (suc (d .m)) i → LooksAs (plus d x) (plus e x) i (put to (suc (d .m)) (suc (e .m)) i)
   looks-last =
-      next-cases to (d .m) (e .m) (LooksAs (plus d u v colour) (plus e u v colour))
+      next-cases to (d .m) (e .m) (LooksAs (plus d x) (plus e x))
       (λ i h.
-      let here = looks-old d u v colour i h in
-      let there = looks-old e u v colour (to i) (r .to-range i h) in
+      let here = looks-old d x i h in
+      let there = looks-old e x (to i) (r .to-range i h) in
       record {
         one = there .one ∙ r .one i h ∙ sym (here .one);
         other = there .other ∙ r .other i h ∙ sym (here .other);
         red = there .red ∙ r .red i h ∙ sym (here .red);
       })
-      (looks-as (plus d u v colour) (plus e u v colour) (suc (d .m)) (suc (e .m)) u v (colour =? 1) (looks-new d u v colour) (looks-new e u v colour))
+      (looks-as (plus d x) (plus e x) (suc (d .m)) (suc (e .m)) (x .one) (x .other) (x .colour =? 1) (looks-new d x) (looks-new e x))
 
   pub renumbered-plus :
-      Renumbered (plus d u v colour) (plus e u v colour) (put to (suc (d .m)) (suc (e .m))) (put fro (suc (e .m)) (suc (d .m)))
+      Renumbered (plus d x) (plus e x) (put to (suc (d .m)) (suc (e .m))) (put fro (suc (e .m)) (suc (d .m)))
   unfolding plus
   renumbered-plus =
       record {
@@ -202,22 +202,22 @@ module _ (m : ℕ) where
   swap-range : (i : ℕ) → In (suc (suc m)) i → In (suc (suc m)) (swap m i)
   swap-range = swap-cases (λ i j. In (suc (suc m)) j) (λ i h. omega arith) (omega arith) (omega arith)
 
-module _ (d : Design) (u v colour u′ v′ colour′ : ℕ) where
+module _ (d : Design) (x y : Edge) where
   abbrev this-first : Design
-  this-first = plus (plus d u v colour) u′ v′ colour′
+  this-first = plus (plus d x) y
 
   abbrev that-first : Design
-  that-first = plus (plus d u′ v′ colour′) u v colour
+  that-first = plus (plus d y) x
 
   looks-swapped : (i : ℕ) → In (suc (suc (d .m))) i → LooksAs this-first that-first i (swap (d .m) i)
   looks-swapped =
       swap-cases (d .m) (LooksAs this-first that-first)
-      (λ i h. looks-as this-first that-first i i _ _ _ (looks-oldest d u v colour u′ v′ colour′ i h) (looks-oldest d u′ v′ colour′ u v colour i h))
-      (looks-as this-first that-first _ _ _ _ _ (looks-first d u v colour u′ v′ colour′) (looks-second d u′ v′ colour′ u v colour))
-      (looks-as this-first that-first _ _ _ _ _ (looks-second d u v colour u′ v′ colour′) (looks-first d u′ v′ colour′ u v colour))
+      (λ i h. looks-as this-first that-first i i _ _ _ (looks-oldest d x y i h) (looks-oldest d y x i h))
+      (looks-as this-first that-first _ _ _ _ _ (looks-first d x y) (looks-second d y x))
+      (looks-as this-first that-first _ _ _ _ _ (looks-second d x y) (looks-first d y x))
 
   pub renumbered-swap :
-      Renumbered (plus (plus d u v colour) u′ v′ colour′) (plus (plus d u′ v′ colour′) u v colour) (swap (d .m)) (swap (d .m))
+      Renumbered (plus (plus d x) y) (plus (plus d y) x) (swap (d .m)) (swap (d .m))
   unfolding plus
   renumbered-swap =
       record {

@@ -11,7 +11,7 @@ use Prim.Native.Nat.{ℕ, suc}
 use native.Mathlib.Omega.{arith}
 use Rattle.rule.specs.Sets.{Is, _=?_, Set, In, put, _with_, _without_, numbers}
 use Rattle.rule.specs.Legal.{Design, Keeps, Circuit}
-use Rattle.rule.specs.Books.{plus}
+use Rattle.rule.specs.Books.{Edge, plus}
 use Rattle.rule.proofs.Tests.{by-eq, put-same, put-other, with-elim, with-self, with-old, without-old, in-one, in-last}
 use Rattle.rule.proofs.Counting.{with-mono}
 use Rattle.rule.proofs.Legality.{legal-sub}
@@ -42,11 +42,12 @@ sends-cases P s x y at-x else i t =
 
 -- ---- the twin
 
-module _ (d : Design) (u v colour e : ℕ) (h : In (d .m) e) (one : d .one e ≡ u) (other : d .other e ≡ v) (red : d .red e ≡ (colour =? 1)) where
+module _ (d : Design) (given : Edge) (e : ℕ) (h : In (d .m) e) (one : d .one e ≡ given .one) (other : d .other e ≡ given .other)
+    (red : d .red e ≡ (given .colour =? 1)) where
   abbrev new : ℕ
   new = suc (d .m)
 
-  to-new : (s : Set) → Carries d (plus d u v colour) (s with e) (s with suc (d .m)) (sends e (suc (d .m)))
+  to-new : (s : Set) → Carries d (plus d given) (s with e) (s with suc (d .m)) (sends e (suc (d .m)))
   unfolding plus
   to-new s =
       record {
@@ -61,20 +62,20 @@ module _ (d : Design) (u v colour e : ℕ) (h : In (d .m) e) (one : d .one e ≡
             };
         one =
             λ i hi t.
-            sends-cases (λ i z. In (d .m) i → plus d u v colour .one z ≡ d .one i) s e new (λ _. new-one d u v colour ∙ sym one)
-            (λ i _ _ k. plus-one d u v colour i (omega arith)) i t hi;
+            sends-cases (λ i z. In (d .m) i → plus d given .one z ≡ d .one i) s e new (λ _. new-one d given ∙ sym one)
+            (λ i _ _ k. plus-one d given i (omega arith)) i t hi;
         other =
             λ i hi t.
-            sends-cases (λ i z. In (d .m) i → plus d u v colour .other z ≡ d .other i) s e new (λ _. new-other d u v colour ∙ sym other)
-            (λ i _ _ k. plus-other d u v colour i (omega arith)) i t hi;
+            sends-cases (λ i z. In (d .m) i → plus d given .other z ≡ d .other i) s e new (λ _. new-other d given ∙ sym other)
+            (λ i _ _ k. plus-other d given i (omega arith)) i t hi;
         red =
             λ i hi t.
-            sends-cases (λ i z. In (d .m) i → plus d u v colour .red z ≡ d .red i) s e new (λ _. new-red d u v colour ∙ sym red)
-            (λ i _ _ k. plus-red d u v colour i (omega arith)) i t hi;
+            sends-cases (λ i z. In (d .m) i → plus d given .red z ≡ d .red i) s e new (λ _. new-red d given ∙ sym red)
+            (λ i _ _ k. plus-red d given i (omega arith)) i t hi;
       }
 
   -- back from the new edge to its twin, which s does not hold
-  to-twin : (s : Set) → ¬ (Is (s e)) → Carries (plus d u v colour) d (s with suc (d .m)) (s with e) (sends (suc (d .m)) e)
+  to-twin : (s : Set) → ¬ (Is (s e)) → Carries (plus d given) d (s with suc (d .m)) (s with e) (sends (suc (d .m)) e)
   unfolding plus
   to-twin s not =
       record {
@@ -89,16 +90,16 @@ module _ (d : Design) (u v colour e : ℕ) (h : In (d .m) e) (one : d .one e ≡
             };
         one =
             λ i _ t.
-            sends-cases (λ i z. d .one z ≡ plus d u v colour .one i) s new e (one ∙ sym (new-one d u v colour))
-            (λ i ne _. sym (plus-one d u v colour i ne)) i t;
+            sends-cases (λ i z. d .one z ≡ plus d given .one i) s new e (one ∙ sym (new-one d given))
+            (λ i ne _. sym (plus-one d given i ne)) i t;
         other =
             λ i _ t.
-            sends-cases (λ i z. d .other z ≡ plus d u v colour .other i) s new e (other ∙ sym (new-other d u v colour))
-            (λ i ne _. sym (plus-other d u v colour i ne)) i t;
+            sends-cases (λ i z. d .other z ≡ plus d given .other i) s new e (other ∙ sym (new-other d given))
+            (λ i ne _. sym (plus-other d given i ne)) i t;
         red =
             λ i _ t.
-            sends-cases (λ i z. d .red z ≡ plus d u v colour .red i) s new e (red ∙ sym (new-red d u v colour))
-            (λ i ne _. sym (plus-red d u v colour i ne)) i t;
+            sends-cases (λ i z. d .red z ≡ plus d given .red i) s new e (red ∙ sym (new-red d given))
+            (λ i ne _. sym (plus-red d given i ne)) i t;
       }
     where
       apart : (i : ℕ) → Is ((s with suc (d .m)) i) → i ≢ e
@@ -106,15 +107,15 @@ module _ (d : Design) (u v colour e : ℕ) (h : In (d .m) e) (one : d .one e ≡
           ⊎-elim (λ l. omega (arith, h .high)) (λ k. not (subst (λ (j : ℕ). Is (s j)) q k)) (with-elim s (suc (d .m)) i t)
 
   -- with the new edge a set is legal exactly when it is with its twin
-  pub twin-keeps : (s : Set) → ¬ (Is (s e)) → (Keeps (plus d u v colour) s (suc (d .m)) ↔ Keeps d s e)
+  pub twin-keeps : (s : Set) → ¬ (Is (s e)) → (Keeps (plus d given) s (suc (d .m)) ↔ Keeps d s e)
   twin-keeps s not = (
-    legal-carried d (plus d u v colour) (s with e) (s with suc (d .m)) (sends e (suc (d .m))) (to-new s),
-    legal-carried (plus d u v colour) d (s with suc (d .m)) (s with e) (sends (suc (d .m)) e) (to-twin s not),
+    legal-carried d (plus d given) (s with e) (s with suc (d .m)) (sends e (suc (d .m))) (to-new s),
+    legal-carried (plus d given) d (s with suc (d .m)) (s with e) (sends (suc (d .m)) e) (to-twin s not),
   )
 
   module _ (kept : Set) (not : ¬ (Is (kept e))) where
     -- the circuit of the new edge is its twin's
-    pub twin-circuit : ¬ (Is (kept (suc (d .m)))) → (list : List ℕ) → Circuit (plus d u v colour) kept (suc (d .m)) list → Circuit d kept e list
+    pub twin-circuit : ¬ (Is (kept (suc (d .m)))) → (list : List ℕ) → Circuit (plus d given) kept (suc (d .m)) list → Circuit d kept e list
     unfolding plus
     twin-circuit past list c =
         record {
@@ -131,7 +132,7 @@ module _ (d : Design) (u v colour e : ℕ) (h : In (d .m) e) (one : d .one e ≡
         }
 
     -- where the new edge is kept, every kept edge is in its twin's circuit
-    pub free-circuit : Keeps (plus d u v colour) kept (suc (d .m)) → Circuit d kept e (numbers kept (d .m))
+    pub free-circuit : Keeps (plus d given) kept (suc (d .m)) → Circuit d kept e (numbers kept (d .m))
     free-circuit keeps =
         record {
           chosen = kept;

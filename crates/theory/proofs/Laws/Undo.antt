@@ -10,7 +10,7 @@ use Prim.Native.Nat.{ℕ, suc}
 use native.Mathlib.Omega.{arith}
 use Rattle.rule.specs.Sets.{Is, _=?_, Set, In, _with_}
 use Rattle.rule.specs.Legal.{Design, Legal, Grown}
-use Rattle.rule.specs.Books.{plus}
+use Rattle.rule.specs.Books.{Edge, plus}
 use Rattle.rule.proofs.Tests.{in-one, put-other, with-self, with-old}
 use Rattle.theory.specs.Order.{ImpliedBy}
 use Rattle.theory.proofs.Laws.Transport.{legal-carried}
@@ -49,20 +49,20 @@ by-looks p q s t f a b n twice g =
 old-of : (s : Set) (e i : ℕ) → i ≢ e → Is ((s with e) i) → Is (s i)
 old-of s e i ne t = sym (put-other s e _ i ne) ∙ t
 
--- ---- the edge x between u and v, and the edge y between u′ and v′
+-- ---- two edges, x and y
 
-module _ (d : Design) (u v colour u′ v′ colour′ : ℕ) where
+module _ (d : Design) (x y : Edge) where
   abbrev with-x : Design
-  with-x = plus d u v colour
+  with-x = plus d x
 
   abbrev with-y : Design
-  with-y = plus d u′ v′ colour′
+  with-y = plus d y
 
   abbrev y-then-x : Design
-  y-then-x = plus with-y u v colour
+  y-then-x = plus with-y x
 
   abbrev x-then-y : Design
-  x-then-y = plus with-x u′ v′ colour′
+  x-then-y = plus with-x y
 
   -- the numbers of the first and of the second new edge
   abbrev first : ℕ
@@ -73,10 +73,10 @@ module _ (d : Design) (u v colour u′ v′ colour′ : ℕ) where
 
   -- x looks alike with y before it and without
   x-alike : LooksAs with-x y-then-x first second
-  x-alike = looks-as with-x y-then-x first second u v (colour =? 1) (looks-new d u v colour) (looks-second d u′ v′ colour′ u v colour)
+  x-alike = looks-as with-x y-then-x first second (x .one) (x .other) (x .colour =? 1) (looks-new d x) (looks-second d y x)
 
   old-alike : (i : ℕ) → In (d .m) i → LooksAs with-x y-then-x i i
-  old-alike i h = looks-as with-x y-then-x i i _ _ _ (looks-old d u v colour i h) (looks-oldest d u′ v′ colour′ u v colour i h)
+  old-alike i h = looks-as with-x y-then-x i i _ _ _ (looks-old d x i h) (looks-oldest d y x i h)
 
   -- ---- y left out, and y put in where it is not in the set
 
@@ -110,7 +110,7 @@ module _ (d : Design) (u v colour u′ v′ colour′ : ℕ) where
   in-either-order : (l g : Set) → ((i : ℕ) → In (d .m) i → Is (l i) → Is (g i)) → Is (g first) → Legal x-then-y (g with second) → Legal y-then-x (l with second)
   unfolding plus
   in-either-order l g f x-kept =
-      legal-renumbered y-then-x x-then-y (swap (d .m)) (swap (d .m)) (renumbered-swap d u′ v′ colour′ u v colour) (l with second) (g with second)
+      legal-renumbered y-then-x x-then-y (swap (d .m)) (swap (d .m)) (renumbered-swap d y x) (l with second) (g with second)
       (swap-cases (d .m) (λ i j. Is ((l with second) i) → Is ((g with second) j))
       (λ i o t. with-old g second i (f i o (old-of l second i (omega arith) t))) (λ _. with-self g second) (λ _. with-old g second first x-kept))
 
@@ -118,25 +118,25 @@ module _ (d : Design) (u v colour u′ v′ colour′ : ℕ) where
 
   module _ (k l : Set) (gk : Grown d k) (gl : Grown with-y l) where
     same : (i : ℕ) → In (d .m) i → k i ≡ l i
-    same = old-kept d u′ v′ colour′ k l gk gl
+    same = old-kept d y k l gk gl
 
     -- adding y takes nothing out of what is implied
-    pub more-implied : ImpliedBy d k u v colour → ImpliedBy with-y l u v colour
+    pub more-implied : ImpliedBy d k x → ImpliedBy with-y l x
     unfolding plus
     more-implied not legal = not (without-y k l (λ i h t. sym (same i h) ∙ t) legal)
 
     -- adding an implied y puts nothing in
-    pub implied-adds-none : ImpliedBy d k u′ v′ colour′ → ImpliedBy with-y l u v colour → ImpliedBy d k u v colour
+    pub implied-adds-none : ImpliedBy d k y → ImpliedBy with-y l x → ImpliedBy d k x
     unfolding plus
     implied-adds-none y-implied not legal =
         not
-        (with-no-y k l (λ t. y-implied (new-kept d u′ v′ colour′ k l gk gl .0 t)) (λ i h t. same i h ∙ t) legal)
+        (with-no-y k l (λ t. y-implied (new-kept d y k l gk gl .0 t)) (λ i h t. same i h ∙ t) legal)
 
     -- x is not implied, but is once y is added: then y is implied once x is added in its place
-    pub exchange-law : (g : Set) → Grown with-x g → ¬ (ImpliedBy d k u v colour) → ImpliedBy with-y l u v colour → ImpliedBy with-x g u′ v′ colour′
+    pub exchange-law : (g : Set) → Grown with-x g → ¬ (ImpliedBy d k x) → ImpliedBy with-y l x → ImpliedBy with-x g y
     unfolding plus
     exchange-law g gg not-implied implied legal =
         not-implied
         (λ keeps.
         implied
-        (in-either-order l g (λ i h t. sym (old-kept d u v colour k g gk gg i h) ∙ (same i h ∙ t)) (new-kept d u v colour k g gk gg .1 keeps) legal))
+        (in-either-order l g (λ i h t. sym (old-kept d x k g gk gg i h) ∙ (same i h ∙ t)) (new-kept d x k g gk gg .1 keeps) legal))
