@@ -78,63 +78,63 @@ module _ (B after : Book) (given : Edge) (list listed : List ℕ) where
   same-n (Refused r) o = sym (ap (λ (z : Book). z .n) (o .1))
 
   -- what is implied stays so
-  still-implied : (answer : Answer) → Run B → Offer B after given list listed answer → (x y c : ℕ) → BookImplies B x y c → BookImplies after x y c
-  still-implied (Kept n) run o x y c i = undo-more-implied B after run x y c given list listed (Kept n) tt o i
-  still-implied (Implied n) run o x y c i = undo-more-implied B after run x y c given list listed (Implied n) tt o i
-  still-implied (Refused r) run o x y c i = subst (λ (z : Book). BookImplies z x y c) (sym (o .1)) i
+  still-implied : (answer : Answer) → Run B → Offer B after given list listed answer → (x : Edge) → BookImplies B x → BookImplies after x
+  still-implied (Kept n) run o x i = undo-more-implied B after run x given list listed (Kept n) tt o i
+  still-implied (Implied n) run o x i = undo-more-implied B after run x given list listed (Implied n) tt o i
+  still-implied (Refused r) run o x i = subst (λ (z : Book). BookImplies z x) (sym (o .1)) i
 
--- ---- the other laws: the edge x is between u and v, the edge y between u′ and v′, and y is offered to a book
+-- ---- the other laws: the edge y is offered to a book
 
-module _ (B By : Book) (run : Run B) (given given′ : Edge) (list listed : List ℕ) where
+module _ (B By : Book) (run : Run B) (x y : Edge) (list listed : List ℕ) where
   -- ---- 2. The offer takes nothing out of what is implied
 
-  pub calls-more-implied : (answer : Answer) → Offer B By given′ list listed answer → (lent used again filled : List ℕ) (m : ℕ) (said : Answer)
-      → Question B given lent used (Implied m) → circuitRoom ≤ length again → Question By given again filled said → IsImplied said
+  pub calls-more-implied : (answer : Answer) → Offer B By y list listed answer → (lent used again filled : List ℕ) (m : ℕ) (said : Answer)
+      → Question B x lent used (Implied m) → circuitRoom ≤ length again → Question By x again filled said → IsImplied said
   calls-more-implied answer offer-y lent used again filled m said before long asked =
-      tells-implied (edgeChecks (By .n) given) (BookImplies By given) said
-      (subst (λ (z : ℕ). Pass (edgeChecks z given)) (same-n B By given′ list listed answer offer-y)
-      (passes-edge B given lent (before .checked)))
-      (still-implied B By given′ list listed answer run offer-y given (question-implied B given lent used m before))
-      (question-tells By given again (offer-grew given′ list listed answer offer-y (run-grew run) .sound) long filled said asked)
+      tells-implied (edgeChecks (By .n) x) (BookImplies By x) said
+      (subst (λ (z : ℕ). Pass (edgeChecks z x)) (same-n B By y list listed answer offer-y)
+      (passes-edge B x lent (before .checked)))
+      (still-implied B By y list listed answer run offer-y x (question-implied B x lent used m before))
+      (question-tells By x again (offer-grew y list listed answer offer-y (run-grew run) .sound) long filled said asked)
 
   -- ---- 3. It was answered implied: it puts nothing in
 
-  pub calls-implied-adds-none : (k : ℕ) → Offer B By given′ list listed (Implied k) → (lent used again filled : List ℕ) (m : ℕ) (said : Answer)
-      → Question By given again filled (Implied m) → circuitRoom ≤ length lent → Question B given lent used said → IsImplied said
+  pub calls-implied-adds-none : (k : ℕ) → Offer B By y list listed (Implied k) → (lent used again filled : List ℕ) (m : ℕ) (said : Answer)
+      → Question By x again filled (Implied m) → circuitRoom ≤ length lent → Question B x lent used said → IsImplied said
   calls-implied-adds-none k offer-y lent used again filled m said after long asked =
-      tells-implied (edgeChecks (B .n) given) (BookImplies B given) said
-      (subst (λ (z : ℕ). Pass (edgeChecks z given)) (sym (same-n B By given′ list listed (Implied k) offer-y))
-      (passes-edge By given again (after .checked)))
-      (undo-implied-adds-none B By run given given′ list listed (Implied k) tt offer-y
-      (offer-implied-implies B By given′ list listed k offer-y) (question-implied By given again filled m after))
-      (question-tells B given lent (run-grew run .sound) long used said asked)
+      tells-implied (edgeChecks (B .n) x) (BookImplies B x) said
+      (subst (λ (z : ℕ). Pass (edgeChecks z x)) (sym (same-n B By y list listed (Implied k) offer-y))
+      (passes-edge By x again (after .checked)))
+      (undo-implied-adds-none B By run x y list listed (Implied k) tt offer-y
+      (offer-implied-implies B By y list listed k offer-y) (question-implied By x again filled m after))
+      (question-tells B x lent (run-grew run .sound) long used said asked)
 
   -- ---- 4. Exchange
 
-  module _ (Bx : Book) (lent used : List ℕ) (k : ℕ) (offer-x : Offer B Bx given lent used (Kept k)) where
-    not-implied : ¬ (BookImplies B given)
-    not-implied = offer-kept-not-implies B Bx given lent used k offer-x
+  module _ (Bx : Book) (lent used : List ℕ) (k : ℕ) (offer-x : Offer B Bx x lent used (Kept k)) where
+    not-implied : ¬ (BookImplies B x)
+    not-implied = offer-kept-not-implies B Bx x lent used k offer-x
 
-    fits : Pass (offerChecks B given′ list) → Pass (edgeChecks (B .n) given′)
-    fits c = passes-edge B given′ list (passes-question B given′ list c)
+    fits : Pass (offerChecks B y list) → Pass (edgeChecks (B .n) y)
+    fits c = passes-edge B y list (passes-question B y list c)
 
-    taken-exchanged : (answer : Answer) → Taken answer → Offer B By given′ list listed answer → BookImplies By given
-        → BookImplies Bx given′
+    taken-exchanged : (answer : Answer) → Taken answer → Offer B By y list listed answer → BookImplies By x
+        → BookImplies Bx y
     taken-exchanged answer taken o =
-        undo-exchange B By run given given′ list listed answer taken o Bx lent used (Kept k) tt offer-x not-implied
+        undo-exchange B By run x y list listed answer taken o Bx lent used (Kept k) tt offer-x not-implied
 
     -- y fits the book, and is implied once x is offered. (Refused, y would have left x kept.)
-    exchanged : (answer : Answer) → Offer B By given′ list listed answer → BookImplies By given
-        → Pass (edgeChecks (B .n) given′) × BookImplies Bx given′
+    exchanged : (answer : Answer) → Offer B By y list listed answer → BookImplies By x
+        → Pass (edgeChecks (B .n) y) × BookImplies Bx y
     exchanged (Kept c) o i = (fits (o .checked), taken-exchanged (Kept c) tt o i)
     exchanged (Implied c) o i = (fits (o .checked), taken-exchanged (Implied c) tt o i)
-    exchanged (Refused r) o i = absurd (not-implied (subst (λ (z : Book). BookImplies z given) (o .1) i))
+    exchanged (Refused r) o i = absurd (not-implied (subst (λ (z : Book). BookImplies z x) (o .1) i))
 
     -- x is kept, and implied once y is offered: then y is implied once x is offered in its place
-    pub calls-exchange : (answer : Answer) → Offer B By given′ list listed answer → (again filled more got : List ℕ) (m : ℕ) (said : Answer)
-        → Question By given again filled (Implied m) → circuitRoom ≤ length more → Question Bx given′ more got said → IsImplied said
+    pub calls-exchange : (answer : Answer) → Offer B By y list listed answer → (again filled more got : List ℕ) (m : ℕ) (said : Answer)
+        → Question By x again filled (Implied m) → circuitRoom ≤ length more → Question Bx y more got said → IsImplied said
     calls-exchange answer offer-y again filled more got m said after long asked =
-        let y = exchanged answer offer-y (question-implied By given again filled m after) in
-        tells-implied (edgeChecks (Bx .n) given′) (BookImplies Bx given′) said
-        (subst (λ (z : ℕ). Pass (edgeChecks z given′)) (same-n B Bx given lent used (Kept k) offer-x) (y .0)) (y .1)
-        (question-tells Bx given′ more (offer-grew given lent used (Kept k) offer-x (run-grew run) .sound) long got said asked)
+        let follows = exchanged answer offer-y (question-implied By x again filled m after) in
+        tells-implied (edgeChecks (Bx .n) y) (BookImplies Bx y) said
+        (subst (λ (z : ℕ). Pass (edgeChecks z y)) (same-n B Bx x lent used (Kept k) offer-x) (follows .0)) (follows .1)
+        (question-tells Bx y more (offer-grew x lent used (Kept k) offer-x (run-grew run) .sound) long got said asked)

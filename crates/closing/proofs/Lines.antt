@@ -164,15 +164,15 @@ unfolding answerLines
 offers-reported none run-first empty = record { so-many = sym empty; each = λ i h. absurd (omega arith) }
 offers-reported (then {before} {after} e list listed answer run pass o) run-first empty =
     let r = offers-reported run run-first empty in
-    let taken = passed-taken before after (e .one) (e .other) (e .colour) list listed answer pass o in
+    let taken = passed-taken before after e list listed answer pass o in
     let grew = run-grew (offers-run run run-first) in
-    let more = count-after before after grew (e .one) (e .other) (e .colour) list listed answer taken o in
+    let more = count-after before after grew e list listed answer taken o in
     let line = answerLine after listed answer in
     record {
       so-many = length-append (answerLines run) (line ∷ []) ∙ omega (arith, r .so-many);
       each =
           λ i h.
-          lines-more before after grew (e .one) (e .other) (e .colour) list listed answer taken o (answerLines run)
+          lines-more before after grew e list listed answer taken o (answerLines run)
           (r .so-many) (r .each) i (omega arith);
     }
 

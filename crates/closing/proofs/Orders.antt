@@ -32,29 +32,25 @@ use Rattle.closing.specs.Undo.{Came, begun, took, refused, Reordered}
 -- what came from some edges came from opening and a run of offers
 pub came-run : {a b n : ℕ} {edges : List Edge} {B : Book} → Came a b n edges B → Run B
 came-run {a} {b} {n} (begun o) = opened a b n o
-came-run (took e list listed answer came taken o) = offered (e .one) (e .other) (e .colour) list listed answer (came-run came) o
+came-run (took e list listed answer came taken o) = offered e list listed answer (came-run came) o
 came-run (refused given list listed r came o) = offered given list listed (Refused r) (came-run came) o
-
--- the design with an edge more
-abbrev more : Design → Edge → Design
-more d e = plus d (e .one) (e .other) (e .colour)
 
 -- the design with these edges more, in order
 unfoldable withEdges : Design → List Edge → Design
 withEdges d [] = d
-withEdges d (e ∷ rest) = withEdges (more d e) rest
+withEdges d (e ∷ rest) = withEdges (plus d e) rest
 
-with-last : (d : Design) (edges : List Edge) (e : Edge) → withEdges d (edges ++ e ∷ []) ≡ more (withEdges d edges) e
+with-last : (d : Design) (edges : List Edge) (e : Edge) → withEdges d (edges ++ e ∷ []) ≡ plus (withEdges d edges) e
 unfolding withEdges
 with-last d [] e = refl
-with-last d (x ∷ rest) e = with-last (more d x) rest e
+with-last d (x ∷ rest) e = with-last (plus d x) rest e
 
 came-design : {a b n : ℕ} {edges : List Edge} {B : Book} → Came a b n edges B → designOf B ≡ withEdges (designOf (newBook a b n)) edges
 unfolding withEdges
 came-design (begun o) = ap designOf (o .1)
 came-design {a} {b} {n} (took {edges} {before} {after} e list listed answer came taken o) =
-    taken-design before after (e .one) (e .other) (e .colour) list listed answer (run-grew (came-run came)) taken o
-    ∙ ap (λ (d : Design). more d e) (came-design came)
+    taken-design before after e list listed answer (run-grew (came-run came)) taken o
+    ∙ ap (λ (d : Design). plus d e) (came-design came)
     ∙ sym (with-last (designOf (newBook a b n)) edges e)
 came-design (refused given list listed r came o) = ap designOf (o .1) ∙ came-design came
 
@@ -71,20 +67,20 @@ both-with : (d e : Design) (edges : List Edge) → InSomeOrder d e → InSomeOrd
 unfolding withEdges
 both-with d e [] r = r
 both-with d e (x ∷ rest) r =
-    both-with (more d x) (more e x) rest
-    (record { to = _; fro = _; renumbered = renumbered-plus d e (r .to) (r .fro) (r .renumbered) (x .one) (x .other) (x .colour) })
+    both-with (plus d x) (plus e x) rest
+    (record { to = _; fro = _; renumbered = renumbered-plus d e (r .to) (r .fro) (r .renumbered) x })
 
 neighbours : (d : Design) (x y : Edge) (rest : List Edge) → InSomeOrder (withEdges d (x ∷ y ∷ rest)) (withEdges d (y ∷ x ∷ rest))
 unfolding withEdges
 neighbours d x y rest =
-    both-with (more (more d x) y) (more (more d y) x) rest
-    (record { to = _; fro = _; renumbered = renumbered-swap d (x .one) (x .other) (x .colour) (y .one) (y .other) (y .colour) })
+    both-with (plus (plus d x) y) (plus (plus d y) x) rest
+    (record { to = _; fro = _; renumbered = renumbered-swap d x y })
 
 reordered-designs : (d : Design) {l k : List Edge} → Reordered l k → InSomeOrder (withEdges d l) (withEdges d k)
 unfolding withEdges
 reordered-designs d List·Permᴰ·nil = record { to = _; fro = _; renumbered = renumbered-same d }
 reordered-designs d (List·Permᴰ·cons {a = x} {l₁ = l} {l₂ = k} same r) =
-    subst (λ (z : Edge). InSomeOrder (withEdges d (x ∷ l)) (withEdges d (z ∷ k))) same (reordered-designs (more d x) r)
+    subst (λ (z : Edge). InSomeOrder (withEdges d (x ∷ l)) (withEdges d (z ∷ k))) same (reordered-designs (plus d x) r)
 reordered-designs d (List·Permᴰ·swap {a = x} {b = y} {l = rest} p q) =
     subst₂ (λ (z w : Edge). InSomeOrder (withEdges d (x ∷ y ∷ rest)) (withEdges d (z ∷ w ∷ rest))) q p (neighbours d x y rest)
 reordered-designs d (List·Permᴰ·trans {l₁ = l} {l₂ = k} {l₃ = j} r s) =
@@ -114,7 +110,7 @@ passed-taken before after given list listed (Refused r) pass o = pass-not-fail (
 offers-came : {a b n : ℕ} {first B : Book} {edges : List Edge} → Offers first edges B → Came a b n [] first → Came a b n edges B
 offers-came none c = c
 offers-came (then {before} {after} e list listed answer run pass o) c =
-    took e list listed answer (offers-came run c) (passed-taken before after (e .one) (e .other) (e .colour) list listed answer pass o) o
+    took e list listed answer (offers-came run c) (passed-taken before after e list listed answer pass o) o
 
 -- a text that was read names a book that opens
 pub reads-open : {text : List ℕ} {B : Book} (r : Reads text B)

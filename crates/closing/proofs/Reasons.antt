@@ -8,6 +8,7 @@ use mathlib.Core.Logic.{_⊎_, inl, inr, _≢_}
 use mathlib.Core.List.{List, [], _∷_}
 use Prim.Native.Nat.{ℕ, _<_}
 use native.Mathlib.Omega.{arith}
+use Rattle.rule.specs.Books.{Edge}
 use Rattle.rule.specs.declared.Book.{Book}
 use Rattle.rule.specs.declared.Reason.{Reason}
 use Rattle.rule.specs.declared.Answer.the-variants.{Refused}

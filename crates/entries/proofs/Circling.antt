@@ -11,7 +11,7 @@ use lib.Seq.{take-at}
 use Rattle.rule.specs.declared.Book.{Book}
 use Rattle.rule.specs.Sets.{Is, _=?_, In, at, numbers}
 use Rattle.rule.specs.Legal.{Circuit}
-use Rattle.rule.specs.Books.{designOf, forestOf, keptOf, next}
+use Rattle.rule.specs.Books.{Edge, theEdge, designOf, forestOf, keptOf, next}
 use Rattle.rule.specs.Calls.{Filled}
 use Rattle.rule.proofs.Counting.{numbers-eq}
 use Rattle.theory.proofs.Legal.Kept.{kept-has, kept-most}
@@ -26,14 +26,9 @@ use Rattle.placing.proofs.Says.{found-says, stuck-says}
 use Rattle.entries.specs.Listable.{Listable, HoldsCircuit}
 
 module _ (B : Book) (e : ℕ) {root way edge : List ℕ} (l : Listable B e root way edge) where
-  abbrev u : ℕ
-  u = getD (B .ones) (e - 1) 0
-
-  abbrev v : ℕ
-  v = getD (B .others) (e - 1) 0
-
-  abbrev colour : ℕ
-  colour = getD (B .colours) (e - 1) 0
+  -- edge e as it stands at its place
+  abbrev given : Edge
+  given = theEdge (getD (B .ones) (e - 1) 0) (getD (B .others) (e - 1) 0) (getD (B .colours) (e - 1) 0)
 
   at-index : (list : List ℕ) → at list e ≡ getD list (e - 1) 0
   at-index list = sym (at-place list e (l .place .low))
@@ -68,7 +63,7 @@ module _ (B : Book) (e : ℕ) {root way edge : List ℕ} (l : Listable B e root 
             (sym (ap (take n) fills ∙ take-at circuit (drop (length circuit) list) n (sym counts))) c;
       }
 
-  pub found-holds : (path : List ℕ) (p f : ℕ) → Ends B (getD (B .ones) (e - 1) 0) (getD (B .others) (e - 1) 0) (getD (B .colours) (e - 1) 0) path p f
+  pub found-holds : (path : List ℕ) (p f : ℕ) → Ends B (theEdge (getD (B .ones) (e - 1) 0) (getD (B .others) (e - 1) 0) (getD (B .colours) (e - 1) 0)) path p f
       → (list listed : List ℕ) (n : ℕ) → Written list 0 (numbers (placed (B .forests)) (B .count)) listed n → HoldsCircuit B e listed n
   unfolding designOf
   found-holds path p f ended list listed n w =
@@ -80,7 +75,7 @@ module _ (B : Book) (e : ℕ) {root way edge : List ℕ} (l : Listable B e root 
       (keptOf B) not-kept (says .keeps)))
 
   pub stuck-holds : (list listed : List ℕ) (n : ℕ)
-      → Fails B (getD (B .ones) (e - 1) 0) (getD (B .others) (e - 1) 0) (getD (B .colours) (e - 1) 0) list listed n → HoldsCircuit B e listed n
+      → Fails B (theEdge (getD (B .ones) (e - 1) 0) (getD (B .others) (e - 1) 0) (getD (B .colours) (e - 1) 0)) list listed n → HoldsCircuit B e listed n
   unfolding designOf
   stuck-holds list listed n fails =
       let s = asks in

@@ -13,6 +13,7 @@ use lib.ListN.{length, getD, take, drop}
 use Rattle.rule.specs.declared.Book.{Book}
 use Rattle.rule.specs.declared.Answer.{Answer}
 use Rattle.rule.specs.declared.Answer.the-variants.{Kept, Implied, Refused}
+use Rattle.rule.specs.Books.{Edge}
 use Rattle.restated.specs.Bars.{Bar, Member, DifferentBodies, HoldInside, LegalBars}
 
 -- ---- the bars of a book
@@ -41,15 +42,15 @@ keptBars B = keptBut B 0
 
 -- ---- an offered edge
 
-abbrev pub newBar : (given : Edge) → Bar
-newBar given = record { one = (given .one); other = (given .other); red = eqb (given .colour) 1 }
+abbrev pub newBar : Edge → Bar
+newBar given = record { one = given .one; other = given .other; red = eqb (given .colour) 1 }
 
 -- "the kept edges with it are legal"
-abbrev pub LegalWith : Book → (given : Edge) → Type 0
+abbrev pub LegalWith : Book → Edge → Type 0
 LegalWith B given = LegalBars (B .a) (B .b) (B .n) (newBar given ∷ keptBars B)
 
 -- one of "the set of kept edges y such that the kept edges without y, with the new edge added, are legal", "without the new edge's own" number
-pub record CircuitEdge (B : Book) (given y : ℕ) : Type 0 where
+pub record CircuitEdge (B : Book) (given : Edge) (y : ℕ) : Type 0 where
   pub low : 1 ≤ y
   pub high : y ≤ B .count
   pub kept : 1 ≤ getD (B .forests) (y - 1) 0

@@ -5,6 +5,7 @@ use mathlib.Core.List.{List}
 use Prim.Native.Nat.{ℕ, _-_, _≤_, _<_}
 use native.Mathlib.Omega.{arith}
 use lib.ListN.{length, getD}
+use Rattle.rule.specs.Books.{theEdge}
 use Rattle.rule.specs.Sets.{count}
 use Rattle.theory.proofs.Legal.Sound.{sound-head}
 use Rattle.book.proofs.Figures.{placed}
@@ -45,7 +46,7 @@ abbrev Sought : tie.After-place-for → Place → Type 0
 Sought c place =
     let book = start-of c .args .t1 in
     let i = start-of c .args .e - 1 in
-    Seeks book (getD (book .ones) i 0) (getD (book .others) i 0) (getD (book .colours) i 0) (start-of c .args .list .now) (c .place-for .ensures .0) (listed-of c) place
+    Seeks book (theEdge (getD (book .ones) i 0) (getD (book .others) i 0) (getD (book .colours) i 0)) (start-of c .args .list .now) (c .place-for .ensures .0) (listed-of c) place
 
 -- a place was found
 abbrev found-at : tie.After-known-told → tie.After-place-for
