@@ -13,7 +13,7 @@ use lib.ListN.{getD}
 use Rattle.rule.specs.declared.Book.{Book}
 use Rattle.rule.specs.Sets.{Is, In, below, at}
 use Rattle.rule.specs.Forests.{Chain, inForest, limit, Permitted, NoneCloses}
-use Rattle.rule.specs.Books.{designOf, forestOf, HeadRule, EdgeRule}
+use Rattle.rule.specs.Books.{edgeOf, designOf, forestOf, HeadRule, EdgeRule}
 use Rattle.rule.proofs.Tests.{eq-of, in-split, below-in, below-lt, below-make}
 use Rattle.rule.proofs.Loops.{chain-mono, none-closes-loopless}
 use Rattle.theory.specs.Joined.{joined, spans}
@@ -33,25 +33,22 @@ abbrev pub FineAt : Book → (i : ℕ) → Type 0
 FineAt B i = EdgeFine (B .a) (B .b) (B .n) (getD (B .ones) i 0) (getD (B .others) i 0) (getD (B .colours) i 0) (getD (B .forests) i 0)
 
 pub rule-fine : (B : Book) (i : ℕ) → EdgeRule B (suc i) → FineAt B i
-unfolding designOf Permitted limit at
+unfolding edgeOf designOf Permitted limit at
 rule-fine B i r =
     record {
-      one = r .one;
-      other = r .other;
-      different = r .different;
-      permits = record { coloured = r .colour; limited = r .permitted };
+      one = r .range .one;
+      other = r .range .other;
+      different = r .range .different;
+      permits = record { coloured = r .range .colour; limited = r .permitted };
     }
 
 pub fine-rule : (B : Book) (i : ℕ) → FineAt B i
     → (1 ≤ forestOf B (suc i) → ¬ Chain (designOf B) (below (inForest (forestOf B) (forestOf B (suc i))) (suc i)) (at (B .ones) (suc i)) (at (B .others) (suc i)))
     → EdgeRule B (suc i)
-unfolding designOf Permitted limit at
+unfolding edgeOf designOf Permitted limit at
 fine-rule B i r none =
     record {
-      one = r .one;
-      other = r .other;
-      different = r .different;
-      colour = r .permits .coloured;
+      range = record { one = r .one; other = r .other; different = r .different; colour = r .permits .coloured };
       permitted = r .permits .limited;
       closes-none = none;
     }
@@ -142,7 +139,7 @@ module _ (B : Book) (e : ℕ) (root way who edge size : List ℕ) (inv : Scannin
 
       -- what planting needs: there is room where the ends have two labels
       pub plantable : Plantable (getD (B .ones) e 0) (getD (B .others) e 0) (getD (B .forests) e 0) root way who edge size
-      unfolding designOf spans at
+      unfolding edgeOf designOf spans at
       plantable =
           let bodies = head .bodies .high in
           record {
@@ -154,7 +151,7 @@ module _ (B : Book) (e : ℕ) (root way who edge size : List ℕ) (inv : Scannin
                 λ low ne.
                 let hf : In 6 f = omega (arith, in-forests) in
                 room-left (designOf B) so-far f (suc e) edge size (inv .tabled .slots f hf) (head .bodies)
-                (λ z hz t. let r = inv .obey z (omega (arith, hz .low, upto-most (forestOf B) e f z low t)) in (r .one, r .other)) (loop-free f low) edge-next
+                (λ z hz t. let r = inv .obey z (omega (arith, hz .low, upto-most (forestOf B) e f z low t)) .range in (r .one, r .other)) (loop-free f low) edge-next
                 (fine .one, fine .other)
                 (λ h. ne (eq-of (label root f u) (label root f v) (inv .tabled .labels f hf .same u v (omega (arith, fine .one)) (omega (arith, fine .other)) ∙ h)));
             sized = inv .sized;

@@ -18,9 +18,10 @@ use Rattle.rule.specs.declared.Answer.{Answer}
 use Rattle.rule.specs.declared.Answer.the-variants.{Kept, Implied, Refused}
 use Rattle.rule.specs.Sets.{In}
 use Rattle.rule.specs.Figures.{freedom}
-use Rattle.rule.specs.Books.{Edge, designOf, keptOf, ColourRange, Sound}
+use Rattle.rule.specs.Books.{Edge, designOf, keptOf, ColourRange, Sound, EdgeRange}
 use Rattle.rule.specs.Reasons.{Check, plain, room, circuitRoom, Pass, Fail, questionChecks, bookChecks}
 use Rattle.rule.specs.Calls.{Offer, Question, Freedom}
+use Rattle.rule.proofs.Passed.{passed-question}
 use Rattle.rule.proofs.Determined.{Single, nothing-single, fail-determined, pass-not-fail}
 use Rattle.step.specs.Runs.{BookImplies}
 use Rattle.step.proofs.Undo.{question-implied, question-kept}
@@ -50,9 +51,15 @@ Tells checks implied (Kept n) = Pass checks × ¬ implied
 Tells checks implied (Implied n) = Pass checks × implied
 Tells checks implied (Refused r) = Fail checks r
 
+range-passes : (n : ℕ) (given : Edge) → EdgeRange n given → Pass (edgeChecks n given)
+range-passes n given r = (r .colour, ((r .one, r .other), (r .different, tt)))
+
+pub passed-edge : (n : ℕ) (given : Edge) → Pass (edgeChecks n given) → EdgeRange n given
+passed-edge n given p = record { one = p .1 .0 .0; other = p .1 .0 .1; different = p .1 .1 .0; colour = p .0 }
+
 module _ (B : Book) (given : Edge) (list : List ℕ) where
   pub passes-edge : Pass (questionChecks B given list) → Pass (edgeChecks (B .n) given)
-  passes-edge c = (c .1 .0, (c .1 .1 .0, (c .1 .1 .1 .0, tt)))
+  passes-edge c = range-passes (B .n) given (passed-question B given list c .range)
 
   module _ (sound : Sound B) (long : circuitRoom ≤ length list) where
     fails-edge : (r : Reason) → Fail (questionChecks B given list) r → Fail (edgeChecks (B .n) given) r

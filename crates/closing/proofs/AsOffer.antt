@@ -18,6 +18,7 @@ use Rattle.rule.specs.declared.Answer.the-variants.{Kept, Implied, Refused}
 use Rattle.rule.specs.Books.{Edge, forestOf, capacity}
 use Rattle.rule.specs.Reasons.{numberOf, placeOf, Check, plain, Pass, Fail, questionChecks, offerChecks}
 use Rattle.rule.specs.Calls.{Offer, Question}
+use Rattle.rule.proofs.Passed.{passed-offer}
 use Rattle.rule.proofs.Determined.{reason-determined, pass-not-fail}
 use Rattle.rule.proofs.Outcomes.{AnswersAgree, question-determined}
 use Rattle.step.specs.Runs.{Taken}
@@ -89,8 +90,8 @@ module _ (B : Book) (given : Edge) (list : List ℕ) where
 
   six-when-full : (after : Book) (listed : List ℕ) (answer : Answer) → capacity ≤ B .count → Pass (questionChecks B given list)
       → Offer B after given list listed answer → answer ≡ Refused Full
-  six-when-full after listed (Kept c) full pass o = absurd (omega (arith, o .checked .1 .1 .1 .1 .1 .0))
-  six-when-full after listed (Implied c) full pass o = absurd (omega (arith, o .checked .1 .1 .1 .1 .1 .0))
+  six-when-full after listed (Kept c) full pass o = absurd (omega (arith, passed-offer B given list (o .checked) .space))
+  six-when-full after listed (Implied c) full pass o = absurd (omega (arith, passed-offer B given list (o .checked) .space))
   six-when-full after listed (Refused reason) full pass o =
       ⊎-elim (λ f. absurd (pass-not-fail (questionChecks B given list) reason pass f)) (λ q. ap Refused q) (refused-for reason (o .0))
 

@@ -28,7 +28,7 @@ use Rattle.step.proofs.Undo.{question-implied, undo-order-freedom, undo-order-i
 use Rattle.closing.specs.Undo.{IsImplied, Alike, Came, Reordered}
 use Rattle.closing.proofs.AsOffer.{passes-question}
 use Rattle.closing.proofs.Orders.{InSomeOrder, came-run, came-reordered}
-use Rattle.closing.proofs.Answered.{edgeChecks, edge-single, passes-edge, Tells, tells-implied, tells-alike}
+use Rattle.closing.proofs.Answered.{edgeChecks, edge-single, passed-edge, passes-edge, Tells, tells-implied, tells-alike}
 use Rattle.closing.proofs.Answered.{question-tells, freedom-tells, offer-implied-implies, offer-kept-not-implies}
 
 -- ---- 1. Another order
@@ -55,7 +55,8 @@ module _ {a b n : ℕ} {edges others : List Edge} {B C : Book} (came-B : Came a 
       let r = order-of in
       tells-alike (edgeChecks (B .n) given) (edge-single (B .n) given) (BookImplies B given) (BookImplies C given)
       (λ fits.
-      undo-order-implied B C (came-run came-B) (came-run came-C) (r .to) (r .fro) (r .renumbered) given (fits .1 .0 .0) (fits .1 .0 .1))
+      let range = passed-edge (B .n) given fits in
+      undo-order-implied B C (came-run came-B) (came-run came-C) (r .to) (r .fro) (r .renumbered) given (range .one) (range .other))
       said told (question-tells B given list sound-B long-B listed said p)
       (subst (λ (z : ℕ). Tells (edgeChecks z given) (BookImplies C given) told) (sym same-bodies)
       (question-tells C given lent sound-C long-C used told q))

@@ -11,8 +11,9 @@ use lib.ListN.{length}
 use Rattle.rule.specs.declared.Book.{Book}
 use Rattle.rule.specs.declared.Answer.the-variants.{Implied}
 use Rattle.rule.specs.Sets.{In, _without_, numbers, at}
-use Rattle.rule.specs.Books.{Edge, designOf, keptOf, offered, plus, next, Sound}
+use Rattle.rule.specs.Books.{Edge, designOf, keptOf, offered, plus, next, Sound, EdgeRange}
 use Rattle.rule.specs.Calls.{ImpliesIt, Offer, Question}
+use Rattle.rule.proofs.Passed.{passed-offer, passed-question}
 use Rattle.rule.proofs.Tests.{put-same}
 use Rattle.rule.proofs.Determined.{circuit-determined}
 use Rattle.theory.specs.Search.{Waiting, Result, search}
@@ -22,14 +23,20 @@ use Rattle.theory.proofs.Theorems.{circuit-not-empty}
 use Rattle.placing.specs.Seek.{forestsFor}
 use Rattle.placing.proofs.Says.{offered-ends, offered-arranged, offered-last, offered-unplaced, found-says, stuck-is-circuit}
 
-module _ (B : Book) (given : Edge) (sound : Sound B) (hu : In (B .n) (given .one)) (hv : In (B .n) (given .other)) (different : (given .one) ≢ (given .other)) where
+module _ (B : Book) (given : Edge) (sound : Sound B) (range : EdgeRange (B .n) given) where
+  hu : In (B .n) (given .one)
+  hu = range .one
+
+  hv : In (B .n) (given .other)
+  hv = range .other
+
   stuck-some : (w : Waiting) → search (offered B given) (forestsFor B) (next B) ≡ going w
       → 1 ≤ length (numbers (w .seen without next B) (next B))
   unfolding plus designOf
   stuck-some w q =
       circuit-not-empty (offered B given) (offered-ends B given sound hu hv) (forestsFor B) (offered-arranged B given sound hu hv)
       (next B) (offered-last B given sound hu hv) (offered-unplaced B given sound hu hv) w q (sound-head B sound .profile .0 .low)
-      (λ same. different (sym (put-same (at (B .ones)) (next B) (given .one)) ∙ same ∙ put-same (at (B .others)) (next B) (given .other)))
+      (λ same. range .different (sym (put-same (at (B .ones)) (next B) (given .one)) ∙ same ∙ put-same (at (B .others)) (next B) (given .other)))
 
   said-some : (list listed : List ℕ) (n : ℕ) → ImpliesIt B given list listed n → 1 ≤ n
   said-some list listed n says = by-search (search (offered B given) (forestsFor B) (next B)) refl
@@ -44,10 +51,10 @@ module _ (B : Book) (given : Edge) (sound : Sound B) (hu : In (B .n) (given .one
 module _ (B : Book) (given : Edge) (list listed : List ℕ) (n : ℕ) where
   pub circuit-never-empty : (after : Book) → Offer B after given list listed (Implied n) → 1 ≤ n
   circuit-never-empty after o =
-      let c = o .checked in
-      said-some B given (c .0) (c .1 .1 .0 .0) (c .1 .1 .0 .1) (c .1 .1 .1 .0) list listed n (o .says)
+      let c = passed-offer B given list (o .checked) .asked in
+      said-some B given (c .sound) (c .range) list listed n (o .says)
 
   pub question-circuit-never-empty : Question B given list listed (Implied n) → 1 ≤ n
   question-circuit-never-empty q =
-      let c = q .checked in
-      said-some B given (c .0) (c .1 .1 .0 .0) (c .1 .1 .0 .1) (c .1 .1 .1 .0) list listed n (q .says)
+      let c = passed-question B given list (q .checked) in
+      said-some B given (c .sound) (c .range) list listed n (q .says)

@@ -11,7 +11,7 @@ use lib.Seq.{take-at}
 use Rattle.rule.specs.declared.Book.{Book}
 use Rattle.rule.specs.Sets.{Is, _=?_, In, at, numbers}
 use Rattle.rule.specs.Legal.{Circuit}
-use Rattle.rule.specs.Books.{Edge, theEdge, designOf, forestOf, keptOf, next}
+use Rattle.rule.specs.Books.{edgeOf, Edge, theEdge, designOf, forestOf, keptOf, next}
 use Rattle.rule.specs.Calls.{Filled}
 use Rattle.rule.proofs.Counting.{numbers-eq}
 use Rattle.theory.proofs.Legal.Kept.{kept-has, kept-most}
@@ -34,8 +34,9 @@ module _ (B : Book) (e : ℕ) {root way edge : List ℕ} (l : Listable B e root 
   at-index list = sym (at-place list e (l .place .low))
 
   pub asks : Seekable B (getD (B .ones) (e - 1) 0) (getD (B .others) (e - 1) 0) root way edge
+  unfolding edgeOf
   asks =
-      let rule = sound-edge B (l .sound) e (l .place) in
+      let rule = sound-edge B (l .sound) e (l .place) .range in
       record {
         sound = l .sound;
         one = subst (In (B .n)) (at-index (B .ones)) (rule .one);

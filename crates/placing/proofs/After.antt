@@ -9,12 +9,12 @@ use Rattle.rule.specs.declared.Book.{Book}
 use Rattle.rule.specs.Sets.{_=?_, Set, In, put, at}
 use Rattle.rule.specs.Legal.{Design}
 use Rattle.rule.specs.Forests.{Arranged}
-use Rattle.rule.specs.Books.{Edge, designOf, forestOf, offered, plus, next, ProfileRange, BodiesRange, ColourRange, Sound}
+use Rattle.rule.specs.Books.{Edge, designOf, forestOf, offered, plus, next, ProfileRange, BodiesRange, ColourRange, Sound, EdgeRange, edgeOf}
 use Rattle.rule.specs.Calls.{Adds}
 use Rattle.rule.proofs.Tests.{in-split, put-same, put-other, put-map}
 use Rattle.rule.proofs.Places.{at-set}
 use Rattle.placing.specs.Take.{Full}
-use Rattle.theory.proofs.Legal.Sound.{sound-head, sound-edge, EndsAndColour, arranged-sound}
+use Rattle.theory.proofs.Legal.Sound.{sound-head, sound-edge, arranged-sound}
 
 module _ (before after : Book) (given : Edge) (adds : Adds before after given) (full : Full before) (room : before .count < 512) where
   pub one-after : at (after .ones) ≡ put (at (before .ones)) (next before) (given .one)
@@ -45,10 +45,11 @@ module _ (before after : Book) (given : Edge) (adds : Adds before after given) (
 
   -- ---- it is sound
 
-  ends-after : Sound before → In (before .n) (given .one) → In (before .n) (given .other) → (given .one) ≢ (given .other) → ColourRange (given .colour) → (e : ℕ) → In (after .count) e → EndsAndColour after e
-  ends-after sound hu hv ne c e h =
+  range-after : Sound before → EdgeRange (before .n) given → (e : ℕ) → In (after .count) e → EdgeRange (after .n) (edgeOf after e)
+  unfolding edgeOf
+  range-after sound range e h =
       in-split (before .count) e (subst (λ (z : ℕ). In z e) (adds .count) h) old
-      (λ q. subst (EndsAndColour after) (sym q) new)
+      (λ q. subst (λ (z : ℕ). EdgeRange (after .n) (edgeOf after z)) (sym q) new)
     where
       bodies : {x : ℕ} → In (before .n) x → In (after .n) x
       bodies {x} r = subst (λ (z : ℕ). In z x) (sym (adds .n)) r
@@ -56,21 +57,21 @@ module _ (before after : Book) (given : Edge) (adds : Adds before after given) (
       at-new : (f g : ℕ → ℕ) (x : ℕ) → f ≡ put g (next before) x → x ≡ f (next before)
       at-new f g x q = sym (ap (λ (z : ℕ → ℕ). z (next before)) q ∙ put-same g (next before) x)
 
-      new : EndsAndColour after (next before)
+      new : EdgeRange (after .n) (edgeOf after (next before))
       new =
           record {
-            one = subst (In (after .n)) (at-new _ _ _ one-after) (bodies hu);
-            other = subst (In (after .n)) (at-new _ _ _ other-after) (bodies hv);
-            different = λ q. ne (at-new _ _ _ one-after ∙ q ∙ sym (at-new _ _ _ other-after));
-            colour = subst ColourRange (at-new _ _ _ colour-after) c;
+            one = subst (In (after .n)) (at-new _ _ _ one-after) (bodies (range .one));
+            other = subst (In (after .n)) (at-new _ _ _ other-after) (bodies (range .other));
+            different = λ q. range .different (at-new _ _ _ one-after ∙ q ∙ sym (at-new _ _ _ other-after));
+            colour = subst ColourRange (at-new _ _ _ colour-after) (range .colour);
           }
 
       at-old : (f g : ℕ → ℕ) (x : ℕ) → f ≡ put g (next before) x → In (before .count) e → g e ≡ f e
       at-old f g x q r = sym (ap (λ (z : ℕ → ℕ). z e) q ∙ put-other g (next before) x e (omega arith))
 
-      old : In (before .count) e → EndsAndColour after e
+      old : In (before .count) e → EdgeRange (after .n) (edgeOf after e)
       old r =
-          let k = sound-edge before sound e r in
+          let k = sound-edge before sound e r .range in
           record {
             one = subst (In (after .n)) (at-old _ _ _ one-after r) (bodies (k .one));
             other = subst (In (after .n)) (at-old _ _ _ other-after r) (bodies (k .other));
@@ -78,9 +79,8 @@ module _ (before after : Book) (given : Edge) (adds : Adds before after given) (
             colour = subst ColourRange (at-old _ _ _ colour-after r) (k .colour);
           }
 
-  pub sound-after : Sound before → In (before .n) (given .one) → In (before .n) (given .other) → (given .one) ≢ (given .other) → ColourRange (given .colour)
-      → Arranged (offered before given) (forestOf after) → Sound after
-  sound-after sound hu hv ne c arr =
+  pub sound-after : Sound before → EdgeRange (before .n) given → Arranged (offered before given) (forestOf after) → Sound after
+  sound-after sound range arr =
       let head = sound-head before sound in
       arranged-sound after
       (record {
@@ -88,4 +88,4 @@ module _ (before after : Book) (given : Edge) (adds : Adds before after given) (
         bodies = subst BodiesRange (sym (adds .n)) (head .bodies);
         edges = omega (arith, adds .count);
       })
-      (ends-after sound hu hv ne c) (subst (λ (d : Design). Arranged d (forestOf after)) (sym design-after) arr)
+      (range-after sound range) (subst (λ (d : Design). Arranged d (forestOf after)) (sym design-after) arr)

@@ -11,6 +11,7 @@ use Rattle.rule.specs.Legal.{Design, Grown}
 use Rattle.rule.specs.Forests.{Arranged}
 use Rattle.rule.specs.Books.{Edge, designOf, forestOf, keptOf, offered, next, Sound, GrownBook}
 use Rattle.rule.specs.Calls.{OfferKept, OfferImplied}
+use Rattle.rule.proofs.Passed.{passed-offer}
 use Rattle.rule.proofs.Tests.{same-test, put-same, put-other}
 use Rattle.rule.proofs.Counting.{Agree}
 use Rattle.rule.proofs.Places.{at-set}
@@ -26,12 +27,12 @@ module _ (before after : Book) (given : Edge) (list listed : List ℕ) (count : 
 
   module _ (o : OfferKept before after given list listed count) where
     less : before .count < 512
-    less = o .checked .1 .1 .1 .1 .1 .0
+    less = passed-offer before given list (o .checked) .space
 
     pub kept-sound : Sound after
     kept-sound =
-        let c = o .checked in
-        sound-after before after given (o .adds) full less (c .0) (c .1 .1 .0 .0) (c .1 .1 .0 .1) (c .1 .1 .1 .0) (c .1 .0) (o .says .arranged)
+        let c = passed-offer before given list (o .checked) .asked in
+        sound-after before after given (o .adds) full less (c .sound) (c .range) (o .says .arranged)
 
     -- no offer makes a kept edge implied, nor an implied one kept
     kept-same : Agree (before .count) (keptOf before) (keptOf after)
@@ -52,7 +53,7 @@ module _ (before after : Book) (given : Edge) (list listed : List ℕ) (count : 
 
   module _ (o : OfferImplied before after given list listed count) where
     room : before .count < 512
-    room = o .checked .1 .1 .1 .1 .1 .0
+    room = passed-offer before given list (o .checked) .space
 
     forests-after : forestOf after ≡ put (forestOf before) (next before) 0
     forests-after = ap at (o .forests) ∙ at-set (before .forests) (before .count) 0 (omega (arith, room, full .forests))
@@ -66,10 +67,10 @@ module _ (before after : Book) (given : Edge) (list listed : List ℕ) (count : 
     pub implied-sound : Sound after
     unfolding designOf
     implied-sound =
-        let c = o .checked in
-        sound-after before after given (o .adds) full room (c .0) (c .1 .1 .0 .0) (c .1 .1 .0 .1) (c .1 .1 .1 .0) (c .1 .0)
+        let c = passed-offer before given list (o .checked) .asked in
+        sound-after before after given (o .adds) full room (c .sound) (c .range)
         (subst (Arranged (offered before given)) (sym forests-after)
-        (arranged-longer (designOf before) given (forestOf before) (sound-arranged before (c .0))))
+        (arranged-longer (designOf before) given (forestOf before) (sound-arranged before (c .sound))))
 
     implied-same : Agree (before .count) (keptOf before) (keptOf after)
     unfolding designOf

@@ -15,6 +15,7 @@ use Rattle.rule.specs.Legal.{Design}
 use Rattle.rule.specs.Forests.{Arranged}
 use Rattle.rule.specs.Books.{Edge, designOf, forestOf, offered, plus, next, Sound}
 use Rattle.rule.specs.Calls.{Adds, KeepsIt, ImpliesIt}
+use Rattle.rule.proofs.Passed.{passed-offer}
 use Rattle.rule.proofs.Tests.{put-other}
 use Rattle.rule.proofs.Places.{at-suc, at-set}
 use Rattle.theory.specs.Exchange.{Each, end, Free, shifted, freed}
@@ -47,16 +48,16 @@ same-past l l′ n long f =
 
 module _ (B : Book) (given : Edge) {list root way who edge size : List ℕ} (t : Takeable B given list root way who edge size) where
   sound : Sound B
-  sound = t .checked .0
+  sound = passed-offer B given list (t .checked) .asked .sound
 
   hu : In (B .n) (given .one)
-  hu = t .checked .1 .1 .0 .0
+  hu = passed-offer B given list (t .checked) .asked .range .one
 
   hv : In (B .n) (given .other)
-  hv = t .checked .1 .1 .0 .1
+  hv = passed-offer B given list (t .checked) .asked .range .other
 
   pub room : B .count < 512
-  room = t .checked .1 .1 .1 .1 .1 .0
+  room = passed-offer B given list (t .checked) .space
 
   pub seekable : Seekable B (given .one) (given .other) root way edge
   seekable = record { sound = sound; one = hu; other = hv; who = who; size = size; tabled = t .ready .tabled }

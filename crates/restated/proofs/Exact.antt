@@ -16,6 +16,7 @@ use Rattle.rule.specs.Sets.{In}
 use Rattle.rule.specs.Books.{Edge, Sound}
 use Rattle.rule.specs.Reasons.{Pass, circuitRoom, questionChecks, offerChecks}
 use Rattle.rule.specs.Calls.{KeepsIt, ImpliesIt, Offer, Question}
+use Rattle.rule.proofs.Passed.{Asked, passed-offer, passed-question}
 use Rattle.rule.proofs.Outcomes.{AnswersAgree}
 use Rattle.step.specs.Runs.{Taken}
 use Rattle.closing.specs.Undo.{IsKept, IsImplied}
@@ -24,36 +25,23 @@ use Rattle.restated.proofs.Kept.{keeps-iff}
 use Rattle.restated.proofs.Circuits.{exact-circuit-determined, implied-iff-exact}
 
 module _ (B : Book) (given : Edge) (list : List ℕ) where
-  -- what the checks of a question and of an offer give
-  record MayTake : Type 0 where
-    sound : Sound B
-    one : In (B .n) (given .one)
-    other : In (B .n) (given .other)
-    room : circuitRoom ≤ length list
-
-  question-may : Pass (questionChecks B given list) → MayTake
-  question-may c = record { sound = c .0; one = c .1 .1 .0 .0; other = c .1 .1 .0 .1; room = c .1 .1 .1 .1 .0 }
-
-  offer-may : Pass (offerChecks B given list) → MayTake
-  offer-may c = record { sound = c .0; one = c .1 .1 .0 .0; other = c .1 .1 .0 .1; room = c .1 .1 .1 .1 .0 }
-
   -- ---- what is said
 
-  kept-says : MayTake → {forest : ℕ → ℕ} {moved : ℕ} → KeepsIt B given forest moved → LegalWith B given
-  kept-says t says = keeps-iff B given (t .sound) (t .one) (t .other) .0 (says .keeps)
+  kept-says : Asked B given list → {forest : ℕ → ℕ} {moved : ℕ} → KeepsIt B given forest moved → LegalWith B given
+  kept-says t says = keeps-iff B given (t .sound) (t .range .one) (t .range .other) .0 (says .keeps)
 
-  implied-says : MayTake → {listed : List ℕ} {number : ℕ} → ImpliesIt B given list listed number → SaysInLists B given list listed (Implied number)
-  implied-says t {listed} {number} says = implied-iff-exact B given (t .sound) (t .one) (t .other) list listed number (t .room) .0 says
+  implied-says : Asked B given list → {listed : List ℕ} {number : ℕ} → ImpliesIt B given list listed number → SaysInLists B given list listed (Implied number)
+  implied-says t {listed} {number} says = implied-iff-exact B given (t .sound) (t .range .one) (t .range .other) list listed number (t .room) .0 says
 
   module _ (listed : List ℕ) where
     pub offer-says : (after : Book) (answer : Answer) → Offer B after given list listed answer → SaysInLists B given list listed answer
-    offer-says after (Kept moved) o = (kept-says (offer-may (o .checked)) (o .says), o .unwritten)
-    offer-says after (Implied number) o = implied-says (offer-may (o .checked)) (o .says)
+    offer-says after (Kept moved) o = (kept-says (passed-offer B given list (o .checked) .asked) (o .says), o .unwritten)
+    offer-says after (Implied number) o = implied-says (passed-offer B given list (o .checked) .asked) (o .says)
     offer-says after (Refused reason) o = o .2
 
     pub question-says : (answer : Answer) → Question B given list listed answer → SaysInLists B given list listed answer
-    question-says (Kept moved) q = (kept-says (question-may (q .checked)) (q .says), q .unwritten)
-    question-says (Implied number) q = implied-says (question-may (q .checked)) (q .says)
+    question-says (Kept moved) q = (kept-says (passed-question B given list (q .checked)) (q .says), q .unwritten)
+    question-says (Implied number) q = implied-says (passed-question B given list (q .checked)) (q .says)
     question-says (Refused reason) q = q .1
 
     -- ---- kept, or else implied

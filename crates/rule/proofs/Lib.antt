@@ -4,4 +4,5 @@ pub mod Places
 pub mod Legality
 pub mod Loops
 pub mod Determined
+pub mod Passed
 pub mod Outcomes

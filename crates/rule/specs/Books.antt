@@ -1,6 +1,6 @@
 -- A book as a design, and when it is sound.
 --
--- In order: an edge as it is given; the design, the forests and the kept edges of a book; the ranges of document 01, "Sizes"; the
+-- In order: an edge as it is given; the edges, the design, the forests and the kept edges of a book; the ranges of document 01, "Sizes"; the
 -- rule of each place (0 the head, e edge e); sound, and the first place that breaks a rule; grown; a design with one edge more.
 use mathlib.Core.Path.{_≡_}
 use mathlib.Core.Logic.{_⊎_, _≢_}
@@ -23,6 +23,10 @@ abbrev pub theEdge : (u v colour : ℕ) → Edge
 theEdge u v colour = record { one = u; other = v; colour = colour }
 
 -- ---- a book
+
+-- edge e of a book, as it was given
+unfoldable pub edgeOf : Book → ℕ → Edge
+edgeOf B e = theEdge (at (B .ones) e) (at (B .others) e) (at (B .colours) e)
 
 unfoldable pub designOf : Book → Design
 designOf B =
@@ -60,6 +64,13 @@ capacity = 512
 abbrev pub ColourRange : ℕ → Type 0
 ColourRange c = (c ≡ 1) ⊎ (c ≡ 2)
 
+-- an edge in range: two different bodies in 1 to n, and a colour
+pub record EdgeRange (n : ℕ) (e : Edge) : Type 0 where
+  pub one : In n (e .one)
+  pub other : In n (e .other)
+  pub different : e .one ≢ e .other
+  pub colour : ColourRange (e .colour)
+
 -- ---- the rules of a book
 
 pub record HeadRule (B : Book) : Type 0 where
@@ -70,10 +81,7 @@ pub record HeadRule (B : Book) : Type 0 where
 -- edge e has two different bodies in 1 to n, a colour and a permitted forest number, and closes no loop of its forest among the
 -- edges of smaller number
 pub record EdgeRule (B : Book) (e : ℕ) : Type 0 where
-  pub one : In (B .n) (at (B .ones) e)
-  pub other : In (B .n) (at (B .others) e)
-  pub different : at (B .ones) e ≢ at (B .others) e
-  pub colour : ColourRange (at (B .colours) e)
+  pub range : EdgeRange (B .n) (edgeOf B e)
   pub permitted : Permitted (designOf B) (forestOf B) e
   pub closes-none :
       1 ≤ forestOf B e → ¬ Chain (designOf B) (below (inForest (forestOf B) (forestOf B e)) e) (at (B .ones) e) (at (B .others) e)

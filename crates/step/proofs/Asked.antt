@@ -6,6 +6,7 @@ use mathlib.Core.Logic.{⊎-elim}
 use mathlib.Core.List.{List, _∷_}
 use Prim.Native.Nat.{ℕ, suc, _<_}
 use native.Mathlib.Omega.{arith}
+use Rattle.rule.proofs.Passed.{passed-question, Asked}
 use Rattle.rule.specs.declared.Book.{Book}
 use Rattle.rule.specs.declared.Answer.{Answer}
 use Rattle.rule.specs.declared.Answer.the-variants.{Kept, Implied}
@@ -43,10 +44,11 @@ module _ (B : Book) (given : Edge) (list : List ℕ) (more : Type 0) (c : Checke
 module _ (B : Book) (given : Edge) {list root way edge : List ℕ} (a : Askable B given list root way edge) where
   pub asks : Seekable B (given .one) (given .other) root way edge
   asks =
+      let c = passed-question B given list (a .checked) in
       record {
-        sound = a .checked .0;
-        one = a .checked .1 .1 .0 .0;
-        other = a .checked .1 .1 .0 .1;
+        sound = c .sound;
+        one = c .range .one;
+        other = c .range .other;
         who = a .who;
         size = a .size;
         tabled = a .tabled;
@@ -86,8 +88,17 @@ counted B head ones others colours forests given list listed answer m q o =
 
 -- ---- the numbers of an edge that passed
 
-pub small-body : (B : Book) (u : ℕ) → Sound B → In (B .n) u → u < 256
-small-body B u sound h = omega (arith, h .high, sound-head B sound .bodies .high)
+-- the numbers of an edge that fits a sound book go into bytes
+pub record InBytes (given : Edge) : Type 0 where
+  pub one : given .one < 256
+  pub other : given .other < 256
+  pub colour : given .colour < 256
 
-pub small-colour : (colour : ℕ) → ColourRange colour → colour < 256
-small-colour colour h = ⊎-elim (λ q. omega arith) (λ q. omega arith) h
+pub asked-in-bytes : (B : Book) (given : Edge) (list : List ℕ) → Asked B given list → InBytes given
+asked-in-bytes B given list a =
+    let bodies = sound-head B (a .sound) .bodies in
+    record {
+      one = omega (arith, a .range .one, bodies);
+      other = omega (arith, a .range .other, bodies);
+      colour = ⊎-elim (λ q. omega arith) (λ q. omega arith) (a .range .colour);
+    }

@@ -8,6 +8,7 @@ use mathlib.Core.Path.{_≡_, sym, subst}
 use mathlib.Core.Logic.{_↔_}
 use mathlib.Core.List.{List}
 use Prim.Native.Nat.{ℕ}
+use Rattle.rule.proofs.Passed.{passed-offer}
 use Rattle.rule.specs.declared.Book.{Book}
 use Rattle.rule.specs.declared.Answer.{Answer}
 use Rattle.rule.specs.declared.Answer.the-variants.{Kept, Implied, Refused}
@@ -37,8 +38,8 @@ question-kept B given list listed n q implied = implied (q .says .keeps)
 
 pub taken-design : (before after : Book) (given : Edge) (list listed : List ℕ) (answer : Answer) → Grew before → Taken answer
     → Offer before after given list listed answer → designOf after ≡ plus (designOf before) given
-taken-design before after given list listed (Kept n) g t o = design-after before after given (o .adds) (g .full) (o .checked .1 .1 .1 .1 .1 .0)
-taken-design before after given list listed (Implied n) g t o = design-after before after given (o .adds) (g .full) (o .checked .1 .1 .1 .1 .1 .0)
+taken-design before after given list listed (Kept n) g t o = design-after before after given (o .adds) (g .full) (passed-offer before given list (o .checked) .space)
+taken-design before after given list listed (Implied n) g t o = design-after before after given (o .adds) (g .full) (passed-offer before given list (o .checked) .space)
 taken-design before after given list listed (Refused r) g t o = absurd t
 
 pub taken-grown : (before after : Book) (given : Edge) (list listed : List ℕ) (answer : Answer) → Grew before → Taken answer

@@ -4,6 +4,7 @@ use mathlib.Core.Path.{subst}
 use mathlib.Core.List.{List}
 use Prim.Native.Nat.{ℕ, _+_}
 use native.Mathlib.Omega.{arith}
+use Rattle.rule.proofs.Passed.{passed-offer}
 use Rattle.rule.specs.Books.{theEdge}
 use Rattle.rule.specs.declared.Book.{Book}
 use Rattle.placing.specs.declared.Place.{Place}
@@ -26,7 +27,8 @@ seek-requires : tie.Need-seek-requires
 seek-requires c κs =
     let start = c .before .before .before .before .before .before .before .before .before .before .before .before in
     let t = start .pre .3 in
-    (start .pre .0, start .pre .1, start .pre .2, t .checked .1 .1 .1 .1 .0, seekable (book start) (theEdge (start .args .u) (start .args .v) (start .args .colour)) t)
+    (start .pre .0, start .pre .1, start .pre .2, passed-offer (book start) (theEdge (start .args .u) (start .args .v) (start .args .colour)) (start .args .list .now) (t .checked) .asked .room,
+    seekable (book start) (theEdge (start .args .u) (start .args .v) (start .args .colour)) t)
 
 -- after the search
 abbrev start-of : tie.After-seek → tie.Start

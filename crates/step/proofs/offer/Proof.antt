@@ -2,12 +2,13 @@
 use borrow.Author.Needs.{needs}
 use mathlib.Core.Path.{_≡_, refl}
 use lib.ListN.{length}
+use Rattle.rule.proofs.Passed.{passed-offer}
 use Rattle.rule.specs.Books.{theEdge}
 use Rattle.rule.specs.Reasons.{Pass, offerChecks}
 use Rattle.book.specs.Checks.{Holds}
 use Rattle.placing.specs.Take.{Full}
 use Rattle.book.proofs.Checks.{passed}
-use Rattle.step.proofs.Asked.{offer-refused, small-body, small-colour}
+use Rattle.step.proofs.Asked.{offer-refused, InBytes, asked-in-bytes}
 use Rattle.step.proofs.offer.Statement.{statement}
 use Rattle.step.proofs.offer.Tie as tie
 
@@ -48,20 +49,27 @@ fine c =
     passed (offerChecks (start .args .book) (theEdge (start .args .u) (start .args .v) (start .args .colour)) list) _ (at .offer-checks .result) (c .enum-told .given .1)
     (at .offer-checks .ensures list refl)
 
+-- the offered edge goes into bytes
+small : (c : tie.After-enum-told) → let start = start-of (passed-at c) in InBytes (theEdge (start .args .u) (start .args .v) (start .args .colour))
+small c =
+    let start = start-of (passed-at c) in
+    asked-in-bytes (start .args .book) (theEdge (start .args .u) (start .args .v) (start .args .colour)) (start .args .list .now)
+    (passed-offer (start .args .book) (theEdge (start .args .u) (start .args .v) (start .args .colour)) (start .args .list .now) (fine c .0) .asked)
+
 cast-taken : tie.Need-cast-taken
 cast-taken c =
-    let small = small-body _ _ (fine c .0 .0) (fine c .0 .1 .1 .0 .0) in
-    search (needs, small)
+    let byte = small c .one in
+    search (needs, byte)
 
 cast-taken-2 : tie.Need-cast-taken-2
 cast-taken-2 c =
-    let small = small-body _ _ (fine c .0 .0) (fine c .0 .1 .1 .0 .1) in
-    search (needs, small)
+    let byte = small c .other in
+    search (needs, byte)
 
 cast-taken-3 : tie.Need-cast-taken-3
 cast-taken-3 c =
-    let small = small-colour _ (fine c .0 .1 .0) in
-    search (needs, small)
+    let byte = small c .colour in
+    search (needs, byte)
 
 taken-requires : tie.Need-taken-requires
 taken-requires c κs =

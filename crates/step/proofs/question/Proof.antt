@@ -1,11 +1,12 @@
 -- `step::question`: a refusal is handed on; else a place is sought.
 use borrow.Author.Needs.{needs}
 use mathlib.Core.Path.{refl}
+use Rattle.rule.proofs.Passed.{passed-question}
 use Rattle.rule.specs.Books.{theEdge}
 use Rattle.rule.specs.Reasons.{Pass, questionChecks}
 use Rattle.book.specs.Checks.{Holds}
 use Rattle.book.proofs.Checks.{passed}
-use Rattle.step.proofs.Asked.{question-refused, small-body, small-colour}
+use Rattle.step.proofs.Asked.{question-refused, InBytes, asked-in-bytes}
 use Rattle.step.proofs.question.Statement.{statement}
 use Rattle.step.proofs.question.Tie as tie
 
@@ -38,20 +39,27 @@ fine c =
     passed (questionChecks (start .args .book) (theEdge (start .args .u) (start .args .v) (start .args .colour)) list) _ (at .question-checks .result) (c .enum-told .given .1)
     (at .question-checks .ensures list refl)
 
+-- the offered edge goes into bytes
+small : (c : tie.After-enum-told) → let start = start-of (passed-at c) in InBytes (theEdge (start .args .u) (start .args .v) (start .args .colour))
+small c =
+    let start = start-of (passed-at c) in
+    asked-in-bytes (start .args .book) (theEdge (start .args .u) (start .args .v) (start .args .colour)) (start .args .list .now)
+    (passed-question (start .args .book) (theEdge (start .args .u) (start .args .v) (start .args .colour)) (start .args .list .now) (fine c .0))
+
 cast-sought : tie.Need-cast-sought
 cast-sought c =
-    let small = small-body _ _ (fine c .0 .0) (fine c .0 .1 .1 .0 .0) in
-    search (needs, small)
+    let byte = small c .one in
+    search (needs, byte)
 
 cast-sought-2 : tie.Need-cast-sought-2
 cast-sought-2 c =
-    let small = small-body _ _ (fine c .0 .0) (fine c .0 .1 .1 .0 .1) in
-    search (needs, small)
+    let byte = small c .other in
+    search (needs, byte)
 
 cast-sought-3 : tie.Need-cast-sought-3
 cast-sought-3 c =
-    let small = small-colour _ (fine c .0 .1 .0) in
-    search (needs, small)
+    let byte = small c .colour in
+    search (needs, byte)
 
 sought-requires : tie.Need-sought-requires
 sought-requires c κs =

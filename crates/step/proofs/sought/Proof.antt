@@ -3,6 +3,7 @@ use borrow.Author.Needs.{needs}
 use mathlib.Core.Path.{subst}
 use mathlib.Core.List.{List}
 use Prim.Native.Nat.{ℕ}
+use Rattle.rule.proofs.Passed.{passed-question}
 use Rattle.rule.specs.Books.{theEdge}
 use Rattle.placing.specs.declared.Place.{Place}
 use Rattle.placing.specs.declared.Place.the-variants.{Found}
@@ -14,7 +15,8 @@ use Rattle.step.proofs.sought.Tie as tie
 place-for-requires : tie.Need-place-for-requires
 place-for-requires c κs =
     let start = c .before .before in
-    (start .pre .checked .1 .1 .1 .1 .0, asks (start .args .book) (theEdge (start .args .u) (start .args .v) (start .args .colour)) (start .pre))
+    let given = theEdge (start .args .u) (start .args .v) (start .args .colour) in
+    (passed-question (start .args .book) given (start .args .list .now) (start .pre .checked) .room, asks (start .args .book) given (start .pre))
 
 -- after the search
 abbrev start-of : tie.After-place-for → tie.Start

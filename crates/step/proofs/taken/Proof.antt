@@ -2,6 +2,7 @@
 use borrow.Author.Needs.{needs}
 use mathlib.Core.Path.{refl}
 use native.Mathlib.Omega.{arith}
+use Rattle.rule.proofs.Passed.{passed-offer}
 use Rattle.rule.specs.Books.{theEdge}
 use Rattle.step.proofs.Asked.{counted}
 use Rattle.step.proofs.taken.Statement.{statement}
@@ -13,7 +14,7 @@ take-requires c κs = (refl, refl, refl, c .before .before .before .before .befo
 add-t35 : tie.Need-add-t35
 add-t35 c =
     let start = c .before .before .before .before .before .before .before .before .before .before .before .before .before .before .before .before .before .before .before .before .before .before in
-    let few = start .pre .checked .1 .1 .1 .1 .1 .0 in
+    let few = passed-offer (start .args .book) (theEdge (start .args .u) (start .args .v) (start .args .colour)) (start .args .list .now) (start .pre .checked) .space in
     search (needs, few)
 
 returns : tie.Need-returns

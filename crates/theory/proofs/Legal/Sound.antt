@@ -2,14 +2,13 @@
 -- whose forests are an arrangement is sound, if its head and its edges' ends and colours are right.
 -- Assumes nothing.
 use mathlib.Core.Path.{_≡_, refl, subst}
-use mathlib.Core.Logic.{_≢_}
 use Prim.Native.Nat.{ℕ, zero, suc, _≤_}
 use native.Mathlib.Omega.{arith}
 use Rattle.rule.specs.declared.Book.{Book}
 use Rattle.rule.specs.Sets.{Is, In, below, at}
 use Rattle.rule.specs.Legal.{Design, Ends, k, Legal}
 use Rattle.rule.specs.Forests.{Chain, inForest, Permitted, NoneCloses, Arranged}
-use Rattle.rule.specs.Books.{designOf, forestOf, keptOf, ColourRange, HeadRule, EdgeRule, Obeys, Sound}
+use Rattle.rule.specs.Books.{edgeOf, designOf, forestOf, keptOf, EdgeRange, HeadRule, EdgeRule, Obeys, Sound}
 use Rattle.rule.proofs.Loops.{none-closes-loopless, loopless-none-closes}
 use Rattle.theory.proofs.Legal.Kept.{forest-make, forest-is, limit-most}
 use Rattle.theory.proofs.Legal.Forests.{forests-legal}
@@ -25,8 +24,8 @@ module _ (B : Book) (sound : Sound B) where
   sound-edge (suc i) h = sound (suc i) (h .high)
 
   pub sound-ends : Ends (designOf B)
-  unfolding designOf
-  sound-ends = record { one = λ e h. sound-edge e h .one; other = λ e h. sound-edge e h .other }
+  unfolding designOf edgeOf
+  sound-ends = record { one = λ e h. sound-edge e h .range .one; other = λ e h. sound-edge e h .range .other }
 
   -- no edge of forest i closes a loop among those of smaller number
   none-closes : (i : ℕ) → 1 ≤ i → NoneCloses (designOf B) (inForest (forestOf B) i)
@@ -52,25 +51,15 @@ permitted-range : (d : Design) (forest : ℕ → ℕ) (e : ℕ) → Permitted d 
 unfolding Permitted
 permitted-range d forest e p low = omega (arith, limit-most d e)
 
--- what an edge must have apart from its forest
-pub record EndsAndColour (B : Book) (e : ℕ) : Type 0 where
-  pub one : In (B .n) (at (B .ones) e)
-  pub other : In (B .n) (at (B .others) e)
-  pub different : at (B .ones) e ≢ at (B .others) e
-  pub colour : ColourRange (at (B .colours) e)
-
-pub arranged-sound : (B : Book) → HeadRule B → ((e : ℕ) → In (B .count) e → EndsAndColour B e) → Arranged (designOf B) (forestOf B) → Sound B
+pub arranged-sound : (B : Book) → HeadRule B → ((e : ℕ) → In (B .count) e → EdgeRange (B .n) (edgeOf B e)) → Arranged (designOf B) (forestOf B)
+    → Sound B
 unfolding Sound Obeys NoneCloses designOf
 arranged-sound B head edges arr zero l = head
 arranged-sound B head edges arr (suc i) l =
     let h : In (B .count) (suc i) = omega arith in
-    let r = edges (suc i) h in
     let permitted : Permitted (designOf B) (forestOf B) (suc i) = arr .permitted (suc i) h in
     record {
-      one = r .one;
-      other = r .other;
-      different = r .different;
-      colour = r .colour;
+      range = edges (suc i) h;
       permitted = permitted;
       closes-none =
           λ low.
