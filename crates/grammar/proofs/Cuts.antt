@@ -14,10 +14,9 @@ use native.Mathlib.Omega.{arith}
 use lib.ListN.{length, take, drop, length-append, length-drop, take-append-drop}
 use lib.Seq.{length-take-le, take-at, drop-append-le, take-append-le}
 use Rattle.rule.specs.declared.Reason.{Reason}
-use Rattle.grammar.specs.Grammar.{firstLine, Grammar, Next, Leads, Faulty, Fault, FirstFault, RefusedAt}
+use Rattle.grammar.specs.Grammar.{Grammar, Leads, Faulty, Fault, FirstFault, faultIn, RefusedAt}
 use Rattle.grammar.specs.Grammar.Leads.{here, one-line}
 use Rattle.grammar.specs.Grammar.AtFault.{other, fails}
-use Rattle.grammar.proofs.Runs.{faultIn}
 use Rattle.grammar.proofs.Outcomes.{Lawful, Outcome, outcome, fault-determined}
 
 -- a line has at most `most` bytes and counts as one line, at most `few` come, and nothing follows them

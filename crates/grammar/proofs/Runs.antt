@@ -11,12 +11,8 @@ use native.Mathlib.Omega.{arith}
 use lib.ListN.{length, drop}
 use Rattle.rule.specs.declared.Reason.{Reason}
 use Rattle.rule.specs.Reasons.{Pass}
-use Rattle.grammar.specs.Grammar.{firstLine, Grammar, Next, Leads, Faulty, Fault, FirstFault}
+use Rattle.grammar.specs.Grammar.{Grammar, Next, Leads, Faulty, FirstFault, faultIn}
 use Rattle.grammar.specs.Grammar.Leads.{here, one-line}
-
--- the fault of a text at a place, in a line
-abbrev pub faultIn : List ℕ → (line at : ℕ) → Reason → Fault
-faultIn text line at reason = record { line = line; reason = reason; start = at; size = length (firstLine (drop at text)) }
 
 module _ {g : Grammar} where
   pub leads-more : {said last : g .Said} {rest left more : List ℕ} → Leads g said rest last left → (value : g .due last .Value)

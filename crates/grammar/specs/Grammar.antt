@@ -75,6 +75,10 @@ pub record Fault : Type 0 where
   pub start : ℕ
   pub size : ℕ
 
+-- the fault at a place of a text, in a line: the part is what stands there up to its LF
+abbrev pub faultIn : List ℕ → (line at : ℕ) → Reason → Fault
+faultIn text line at reason = record { line = line; reason = reason; start = at; size = length (firstLine (drop at text)) }
+
 -- The first fault of a text: the lines before it are due and in range, and it is at fault. The part is that line without its
 -- LF; for a missing line it is empty and at the text's end.
 pub record FirstFault (g : Grammar) (text : List ℕ) (f : Fault) : Type 0 where

@@ -19,7 +19,7 @@ use Rattle.text.specs.declared.EdgeLine.the-variants.{Joins}
 use Rattle.text.specs.Lines.{numeral, Number, LF, comma, line, key-red, key-black}
 use Rattle.text.specs.Sheets.{keyOf, edgeText}
 use Rattle.text.specs.Due.{Written}
-use Rattle.text.specs.Readings.{readField, beginsAt, otherEnd, oneEnd, readEnds, readEdge}
+use Rattle.text.specs.Readings.{readField, beginsAt, otherEnd, oneEnd, readEnds, readKey, keyed, readEdge}
 use Rattle.text.proofs.Picks.{pick-is, pick-not, pick-eq, pick-ne}
 use Rattle.text.proofs.Fields.{past-front, field-complete, field-determined, FieldAt, field-sound}
 use Rattle.text.proofs.LineReads.{line-two, LF-ends, comma-ends, key-there, key-found, after-key}
@@ -47,8 +47,8 @@ edge-apart e key more k = ap (λ (s : List ℕ). line s (e .one ∷ e .other ∷
 ends-determined : (u v x y : ℕ) (r q : List ℕ) → Number u → Number v → Number x → Number y
     → numeral u ++ comma ∷ (numeral v ++ LF ∷ r) ≡ numeral x ++ comma ∷ (numeral y ++ LF ∷ q) → (u ≡ x) × (v ≡ y) × (r ≡ q)
 ends-determined u v x y r q hu hv hx hy e =
-    let first = field-determined comma comma-ends u x _ _ hu hx e in
-    let second = field-determined LF LF-ends v y r q hv hy (first .1) in
+    let first = field-determined 2 comma comma-ends u x _ _ hu hx e in
+    let second = field-determined 2 LF LF-ends v y r q hv hy (first .1) in
     (first .0, second .0, second .1)
 
 pub edge-determined : (e f : Edge) (r q : List ℕ) → Written e → Written f → edgeText e ++ r ≡ edgeText f ++ q → (e ≡ f) × (r ≡ q)
@@ -86,24 +86,24 @@ ends-complete : (text : List ℕ) (at colour u v : ℕ) (more : List ℕ) → Nu
 unfolding readEnds oneEnd otherEnd
 ends-complete text at colour u v more hu hv e =
     let middle : ℕ = at + length (numeral u) + 1 in
-    let one = field-complete comma comma-ends text at u _ hu e in
-    let there = field-sound comma text at u middle (omega arith) one in
+    let one = field-complete 2 comma comma-ends text at u _ hu e in
+    let there = field-sound 2 comma text at u middle (omega arith) one in
     let rest = ap (drop 1) (after-key (numeral u) _ _ (sym (there .begins) ∙ e)) in
-    let other = field-complete LF LF-ends text middle v more hv rest in
+    let other = field-complete 2 LF LF-ends text middle v more hv rest in
     (_, ap (oneEnd text colour) one ∙ ap (otherEnd u colour) other)
 
 ends-sound : (text : List ℕ) (at colour u v c next : ℕ) → readEnds text at colour ≡ Joins u v c next → EndsAt text at u v next × (c ≡ colour)
 unfolding readEnds oneEnd otherEnd
-ends-sound text at colour u v c next e = first (readField comma text at) refl e
+ends-sound text at colour u v c next e = first (readField 3 comma text at) refl e
   where
     refuted : {C : Type 0} → EdgeLine.Nothing ≡ Joins u v c next → C
     refuted q = let z : _≡_ {A = ℕ} 0 1 = cc in absurd (omega arith)
 
-    second : (a middle : ℕ) → FieldAt comma text at a middle → (r : Reading) → readField LF text middle ≡ r
+    second : (a middle : ℕ) → FieldAt 2 comma text at a middle → (r : Reading) → readField 3 LF text middle ≡ r
         → otherEnd a colour r ≡ Joins u v c next → EndsAt text at u v next × (c ≡ colour)
     second a middle f Nothing q h = refuted h
     second a middle f (Value b end) q h =
-        let g = field-sound LF text middle b end (omega arith) q in
+        let g = field-sound 2 LF text middle b end (omega arith) q in
         let joined : Joins a b colour end ≡ Joins u v c next = h in
         let one : a ≡ u = cc in
         let other : b ≡ v = cc in
@@ -118,9 +118,9 @@ ends-sound text at colour u v c next e = first (readField comma text at) refl e
         } in
         (subst₃ (EndsAt text at) one other place at-ends, cc)
 
-    first : (r : Reading) → readField comma text at ≡ r → oneEnd text colour r ≡ Joins u v c next → EndsAt text at u v next × (c ≡ colour)
+    first : (r : Reading) → readField 3 comma text at ≡ r → oneEnd text colour r ≡ Joins u v c next → EndsAt text at u v next × (c ≡ colour)
     first Nothing q h = refuted h
-    first (Value a middle) q h = second a middle (field-sound comma text at a middle (omega arith) q) (readField LF text middle) refl h
+    first (Value a middle) q h = second a middle (field-sound 2 comma text at a middle (omega arith) q) (readField 3 LF text middle) refl h
 
 -- ---- what is found is there
 
@@ -149,32 +149,34 @@ edge-there key text at colour u v c next k range h e =
     }
 
 pub edge-sound : (text : List ℕ) (at u v c next : ℕ) → readEdge text at ≡ Joins u v c next → EdgeAt text at (edge u v c) next
-unfolding readEdge
+unfolding readEdge readKey keyed
 edge-sound text at u v c next e =
     cases (beginsAt key-red text at)
-    (λ h. edge-there key-red text at 1 u v c next (key-of-red 1 refl) (inl refl) h (sym (pick-is _ _ _ h) ∙ e))
+    (λ h. edge-there key-red text at 1 u v c next (key-of-red 1 refl) (inl refl) h (sym (ap (keyed text) (pick-is _ _ _ h)) ∙ e))
     (λ h.
     cases (beginsAt key-black text at)
-    (λ b. edge-there key-black text at 2 u v c next (key-of-black 2 refl) (inr refl) b (sym (pick-not _ _ _ h ∙ pick-is _ _ _ b) ∙ e))
-    (λ b. let q = sym (pick-not _ _ _ h ∙ pick-not _ _ _ b) ∙ e in let z : _≡_ {A = ℕ} 0 1 = cc in absurd (omega arith)))
+    (λ b. edge-there key-black text at 2 u v c next (key-of-black 2 refl) (inr refl) b
+    (sym (ap (keyed text) (pick-not _ _ _ h ∙ pick-is _ _ _ b)) ∙ e))
+    (λ b. let q = sym (ap (keyed text) (pick-not _ _ _ h ∙ pick-not _ _ _ b)) ∙ e in let z : _≡_ {A = ℕ} 0 1 = cc in absurd (omega arith)))
 
 -- ---- what is there is found
 
 edge-found : (text : List ℕ) (at : ℕ) (e : Edge) (more : List ℕ) → at ≤ length text → Written e → drop at text ≡ edgeText e ++ more
     → (next : ℕ) × (readEdge text at ≡ Joins (e .one) (e .other) (e .colour) next)
-unfolding readEdge
+unfolding readEdge readKey keyed
 edge-found text at e more l w q =
     ⊎-elim
     (λ red.
     let apart = q ∙ edge-apart e key-red more (key-of-red _ red) in
     let f = ends-complete text (at + 4) 1 (e .one) (e .other) more (w .one) (w .other) (past-front text key-red _ at apart) in
-    (f .0, pick-is _ _ _ (key-found key-red text _ at l apart) ∙ f .1 ∙ ap (λ (c : ℕ). Joins (e .one) (e .other) c (f .0)) (sym red)))
+    (f .0, ap (keyed text) (pick-is _ _ _ (key-found key-red text _ at l apart)) ∙ f .1 ∙ ap (λ (c : ℕ). Joins (e .one) (e .other) c (f .0)) (sym red)))
     (λ black.
     let apart = q ∙ edge-apart e key-black more (key-of-black _ black) in
     let f = ends-complete text (at + 6) 2 (e .one) (e .other) more (w .one) (w .other) (past-front text key-black _ at apart) in (
       f .0,
-      pick-not _ _ _ (λ h. red-not-black _ _ (sym (key-there key-red text at h) ∙ apart))
-          ∙ pick-is _ _ _ (key-found key-black text _ at l apart)
+      ap (keyed text)
+          (pick-not _ _ _ (λ h. red-not-black _ _ (sym (key-there key-red text at h) ∙ apart))
+          ∙ pick-is _ _ _ (key-found key-black text _ at l apart))
           ∙ f .1
           ∙ ap (λ (c : ℕ). Joins (e .one) (e .other) c (f .0)) (sym black),
     ))

@@ -6,29 +6,30 @@
 use mathlib.Core.Path.{_≡_, refl, sym, ap, _∙_, subst, subst₂}
 use mathlib.Core.Logic.{inl}
 use mathlib.Core.List.{List, [], _∷_}
-use Prim.Native.Nat.{ℕ, suc, _≤_}
+use Prim.Native.Nat.{ℕ, _≤_}
 use native.Mathlib.Omega.{arith}
 use lib.ListN.{length, drop}
 use Rattle.rule.specs.declared.Reason.{Reason}
 use Rattle.rule.specs.declared.Reason.the-variants.{Profile, Bodies, Full, Line}
 use Rattle.rule.specs.Sets.{Is, In}
 use Rattle.rule.specs.Books.{ProfileRange, BodiesRange, capacity}
-use Rattle.rule.specs.Reasons.{numberOf, placeOf, Check, plain, Pass}
+use Rattle.rule.specs.Reasons.{numberOf, placeOf, Check, plain}
 use Rattle.rule.proofs.Tests.{cases}
 use Rattle.text.specs.declared.Reading.{Reading}
 use Rattle.text.specs.declared.Reading.the-variants.{Value, Nothing}
 use Rattle.text.specs.declared.Numbered.{Numbered}
 use Rattle.text.specs.Lines.{key-a, key-b, key-bodies, key-edges}
-use Rattle.text.specs.Due.{Said, nothing, to-a, to-b, to-bodies, to-edges, linesOf, numberLine, FirstRange, due}
-use Rattle.text.specs.Faults.{Next, Leads, here, AtFault, Faulty, other, fails}
+use Rattle.text.specs.Due.{Said, nothing, to-a, to-b, to-bodies, to-edges, linesOf, numberLine, FirstRange, due, bookText}
+use Rattle.grammar.specs.Grammar.{Next, AtFault}
+use Rattle.grammar.specs.Grammar.AtFault.{other, fails}
+use Rattle.grammar.proofs.Runs.{stands-on, stands-fault}
+use Rattle.grammar.proofs.Runs as runs
 use Rattle.text.specs.Readings.{readNumberLine}
 use Rattle.text.specs.Judging.{within, ranged, readNumbered}
 use Rattle.text.specs.Judgements.{FaultAt}
 use Rattle.text.proofs.Picks.{pick-is, pick-not}
 use Rattle.text.proofs.Ranges.{within-of, within-is, in-within, first-within, within-first, second-within, within-profile}
 use Rattle.text.proofs.LineReads.{NumberLineAt, number-line-sound, number-line-none}
-use Rattle.text.proofs.Runs.{leads-more}
-use Rattle.text.proofs.Outcomes.{first-fault}
 
 -- ---- a number line
 
@@ -86,22 +87,8 @@ numbered-next f = record { allowed = f .there .small; begins = f .there .begins 
 
 -- ---- a place that is reached
 
--- lines that are due and in range lead to a place of the text
-pub record Stands (text : List ℕ) (at : ℕ) (said : Said) : Type 0 where
-  pub within : at ≤ length text
-  pub leads : Leads nothing text said (drop at text)
-
-pub stands-first : (text : List ℕ) → Stands text 0 nothing
-stands-first text = record { within = omega arith; leads = here }
-
-pub stands-on : {text : List ℕ} {at : ℕ} {said : Said} → Stands text at said → (value : due said .Value) (next : ℕ)
-    → Next (due said) (drop at text) value (drop next text) → next ≤ length text → Pass (due said .checks value)
-    → Stands text next (due said .then value)
-stands-on s value next is l pass = record { within = l; leads = leads-more (s .leads) value is pass }
-
-pub stands-fault : {text : List ℕ} {at : ℕ} {said : Said} (reason : Reason) → Stands text at said
-    → Faulty said (drop at text) reason → FaultAt text reason (suc (linesOf said)) at
-stands-fault {text} {at} {said} reason s bad = first-fault text at said reason (s .within) (s .leads) bad
+abbrev pub Stands : List ℕ → ℕ → Said → Type 0
+Stands text at said = runs.Stands bookText text at said
 
 -- ---- the four lines
 

@@ -7,13 +7,13 @@ pub mod Fields
 pub mod LineReads
 pub mod EdgeReads
 pub mod Steps
-pub mod Runs
 pub mod SheetRuns
 pub mod Outcomes
 pub mod Sizes
 pub mod Heads
+pub mod Overwrites
+pub mod Lists
 pub mod Walks
 pub mod LineEnds
 pub mod Answers
-pub mod Overwrites
 pub mod Cuts

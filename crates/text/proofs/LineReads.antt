@@ -77,7 +77,7 @@ module _ (key : List ℕ) where
   pub number-line-determined : (n m : ℕ) (r q : List ℕ) → Number n → Number m → line key (n ∷ []) ++ r ≡ line key (m ∷ []) ++ q
       → (n ≡ m) × (r ≡ q)
   number-line-determined n m r q hn hm e =
-      field-determined LF LF-ends n m r q hn hm (after-key key _ _ (sym (line-one key n r) ∙ e ∙ line-one key m q))
+      field-determined 2 LF LF-ends n m r q hn hm (after-key key _ _ (sym (line-one key n r) ∙ e ∙ line-one key m q))
 
   pub record NumberLineAt (text : List ℕ) (at n next : ℕ) : Type 0 where
     pub small : Number n
@@ -90,7 +90,7 @@ module _ (key : List ℕ) where
   number-line-sound text at n next e =
       cases (beginsAt key text at)
       (λ h.
-      let f = field-sound LF text (at + length key) n next (omega arith) (sym (pick-is _ _ _ h) ∙ e) in
+      let f = field-sound 2 LF text (at + length key) n next (omega arith) (sym (pick-is _ _ _ h) ∙ e) in
       record {
         small = f .small;
         begins = key-there key text at h ∙ ap (λ (s : List ℕ). key ++ s) (f .begins) ∙ sym (line-one key n (drop next text));
@@ -104,7 +104,7 @@ module _ (key : List ℕ) where
   unfolding readNumberLine
   number-line-none text at l e n more small q =
       let whole = q ∙ line-one key n more in
-      let number = field-complete LF LF-ends text (at + length key) n more small (past-front text key _ at whole) in
+      let number = field-complete 2 LF LF-ends text (at + length key) n more small (past-front text key _ at whole) in
       let found = pick-is _ _ _ (key-found key text _ at l whole) ∙ number in
       let both = sym e ∙ found in
       let z : _≡_ {A = ℕ} 0 1 = cc in

@@ -7,14 +7,17 @@ use mathlib.Core.Path.{_≡_, refl, sym, ap, _∙_, subst}
 use mathlib.Core.List.{List, [], _∷_, _++_, append-assoc, append-nil}
 use Prim.Native.Nat.{ℕ, _+_, _≤_}
 use native.Mathlib.Omega.{arith}
-use lib.ListN.{length, drop, length-append, length-drop}
-use Rattle.rule.specs.Books.{Edge, ProfileRange, BodiesRange, capacity}
+use lib.ListN.{length, length-append}
+use Rattle.rule.specs.Books.{ProfileRange, BodiesRange, capacity}
 use Rattle.rule.specs.Reasons.{Pass}
 use Rattle.text.specs.Lines.{line, key-a, key-b, key-bodies, key-edges}
-use Rattle.text.specs.Sheets.{Sheet, EdgeRange, EdgesRange, SheetRange, edgeText, edgesText, headText, textOf}
-use Rattle.text.specs.Due.{Said, nothing, to-a, to-b, to-bodies, to-edges, FirstRange, due}
+use Rattle.text.specs.Sheets.{Edge, Sheet, EdgeRange, EdgesRange, SheetRange, edgeText, edgesText, headText, textOf}
+use Rattle.text.specs.Due.{Said, nothing, to-a, to-b, to-bodies, to-edges, FirstRange, due, Ended}
 use Rattle.text.proofs.Ranges.{first-small, second-small, profile-first}
-use Rattle.text.specs.Faults.{Next, Leads, here, one-line, Ended}
+use Rattle.grammar.specs.Grammar.{Next}
+use Rattle.grammar.specs.Grammar.Leads.{here, one-line}
+use Rattle.grammar.proofs.Runs.{leads-trans}
+use Rattle.text.specs.Faults.{Leads}
 
 -- ---- lists of edges
 
@@ -84,6 +87,10 @@ leads-said {said} {last} {rest} {left} (one-line {more = more} value next pass l
     let go = leads-said l (said-range said rest value more next pass r) in
     (go .0, said-text said rest value more next ∙ go .1)
 
+pub edges-few : {text rest : List ℕ} {a b n m : ℕ} {es : List Edge} → Leads nothing text (to-edges a b n m es) rest → m ≤ capacity
+unfolding SaidRange
+edges-few leads = leads-said leads tt .0 .2
+
 -- ---- a text that is read to its end
 
 pub ended-sheet : (text : List ℕ) (a b n m : ℕ) (es : List Edge) (rest : List ℕ) → Leads nothing text (to-edges a b n m es) rest
@@ -101,10 +108,6 @@ ended-sheet text a b n m es rest leads end =
     )
 
 -- ---- the text of a sheet
-
-leads-trans : {said one two : Said} {rest left gone : List ℕ} → Leads said rest one left → Leads one left two gone → Leads said rest two gone
-leads-trans here k = k
-leads-trans (one-line value next pass l) k = one-line value next pass (leads-trans l k)
 
 -- the four lines of the head
 head-apart : (a b n m : ℕ) (rest : List ℕ) →
@@ -153,18 +156,3 @@ sheet-leads s r =
 
 pub sheet-ended : (s : Sheet) → Ended (to-edges (s .a) (s .b) (s .n) (length (s .edges)) (s .edges)) []
 sheet-ended s = (refl, refl)
-
--- ---- the place past the head
-
-pub head-place : (text : List ℕ) (a b n m first : ℕ) → first ≤ length text → Leads nothing text (to-edges a b n m []) (drop first text)
-    → first ≡ length (headText a b n m)
-unfolding SaidRange saidText edgesText
-head-place text a b n m first l leads =
-    let said = leads-said leads tt .1 in
-    omega (
-      arith,
-      ap length said,
-      length-append (headText a b n m ++ []) (drop first text),
-      length-append (headText a b n m) (edgesText []),
-      length-drop first text,
-    )

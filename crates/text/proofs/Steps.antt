@@ -1,26 +1,28 @@
--- One line of a text: it is the one due or it is not, its checks pass or one fails, and what it says is determined.
+-- Book text is a lawful grammar: a line is the one due or it is not, its checks pass or one fails, and what it says is determined.
 --
--- In order: each kind of line that is due (specs/Due.antt) is decided and determined; each due line is; its checks are.
+-- In order: each kind of line that is due (specs/Due.antt) is decided and determined; each due line is; its checks are; so is the end.
 -- Assumes nothing.
-use mathlib.Core.Path.{_≡_, refl, sym, _∙_}
+use mathlib.Core.Path.{_≡_, refl, sym, ap, _∙_}
 use mathlib.Core.Logic.{inl, inr}
 use mathlib.Core.List.{List, [], _∷_}
 use Prim.Native.Nat.{ℕ, _≤_, _<_}
 use native.Mathlib.Omega.{arith}
-use lib.ListN.{length, drop}
+use lib.ListN.{length}
 use Rattle.rule.specs.declared.Reason.{Reason}
 use Rattle.rule.specs.declared.Reason.the-variants.{Profile, Bodies, Body, SameBody, Full}
-use Rattle.rule.specs.Books.{Edge, capacity}
-use Rattle.rule.specs.Reasons.{numberOf, placeOf, Check, plain, Pass, Fail}
+use Rattle.rule.specs.Books.{capacity}
+use Rattle.rule.specs.Reasons.{numberOf, placeOf, Check, plain}
 use Rattle.rule.proofs.Tests.{by-le, by-eq}
 use Rattle.rule.proofs.Determined.{Single, nothing-single}
 use Rattle.text.specs.declared.Reading.{Reading}
 use Rattle.text.specs.declared.Reading.the-variants.{Value, Nothing}
 use Rattle.text.specs.declared.EdgeLine.{EdgeLine}
 use Rattle.text.specs.declared.EdgeLine.the-variants.{Joins}
+use Rattle.grammar.specs.Grammar.{Next}
+use Rattle.grammar.proofs.Outcomes.{LineAt, is-due, is-other, Determined, PassOrFail, passes, fail, Lawful}
 use Rattle.text.specs.Lines.{key-a, key-b, key-bodies, key-edges}
-use Rattle.text.specs.Due.{Said, nothing, to-a, to-b, to-bodies, to-edges, DueLine, numberLine, edgeLine, due}
-use Rattle.text.specs.Faults.{Next}
+use Rattle.text.specs.Sheets.{Edge}
+use Rattle.text.specs.Due.{Said, nothing, to-a, to-b, to-bodies, to-edges, numberLine, edgeLine, due, Ended, bookText}
 use Rattle.text.specs.Readings.{readNumberLine, readEdge}
 use Rattle.text.proofs.Ranges.{le-dec, in-dec, both-dec, first-dec, profile-dec}
 use Rattle.text.proofs.LineReads.{number-line-determined, number-line-sound, number-line-none}
@@ -28,20 +30,11 @@ use Rattle.text.proofs.EdgeReads.{edge-determined, edge-sound, edge-non
 
 -- ---- a line
 
--- the line at a place of a text is the one due, and ends at a later place, or it is not
-pub data Line (d : DueLine) (text : List ℕ) (at : ℕ) : Type 0 where
-  is-due : (value : d .Value) (place : ℕ) → Next d (drop at text) value (drop place text) → at < place → place ≤ length text → Line d text at
-  is-other : ((value : d .Value) (more : List ℕ) → ¬ Next d (drop at text) value more) → Line d text at
-
--- two readings of one line are the same
-abbrev pub Determined : DueLine → Type 0
-Determined d = (rest : List ℕ) (x y : d .Value) (r q : List ℕ) → Next d rest x r → Next d rest y q → (x ≡ y) × (r ≡ q)
-
 module _ (key : List ℕ) (then : ℕ → Said) (checks : ℕ → List Check) where
-  number-decided : (text : List ℕ) (at : ℕ) → at ≤ length text → Line (numberLine key then checks) text at
+  number-decided : (text : List ℕ) (at : ℕ) → at ≤ length text → LineAt (numberLine key then checks) text at
   number-decided text at l = go (readNumberLine key text at) refl
     where
-      go : (r : Reading) → readNumberLine key text at ≡ r → Line (numberLine key then checks) text at
+      go : (r : Reading) → readNumberLine key text at ≡ r → LineAt (numberLine key then checks) text at
       go Nothing e = is-other (λ n more h. number-line-none key text at l e n more (h .allowed) (h .begins))
       go (Value n place) e =
           let f = number-line-sound key text at n place e in
@@ -51,11 +44,11 @@ module _ (key : List ℕ) (then : ℕ → Said) (checks : ℕ → List Check) wh
   number-determined rest n m r q h k = number-line-determined key n m r q (h .allowed) (k .allowed) (sym (h .begins) ∙ k .begins)
 
 module _ (a b n m : ℕ) (before : List Edge) where
-  edge-decided : (text : List ℕ) (at : ℕ) → at ≤ length text → Line (edgeLine a b n m before) text at
+  edge-decided : (text : List ℕ) (at : ℕ) → at ≤ length text → LineAt (edgeLine a b n m before) text at
   edge-decided text at l =
       by-le m (length before) (λ all. is-other (λ e more h. absurd (omega (arith, h .allowed .0)))) (λ some. go some (readEdge text at) refl)
     where
-      go : length before < m → (r : EdgeLine) → readEdge text at ≡ r → Line (edgeLine a b n m before) text at
+      go : length before < m → (r : EdgeLine) → readEdge text at ≡ r → LineAt (edgeLine a b n m before) text at
       go some EdgeLine.Nothing e = is-other (λ x more h. edge-none text at l e x more (h .allowed .1) (h .begins))
       go some (Joins u v c place) e =
           let f = edge-sound text at u v c place e in
@@ -67,7 +60,7 @@ module _ (a b n m : ℕ) (before : List Edge) where
 
 -- ---- the line that is due
 
-pub line-decided : (said : Said) (text : List ℕ) (at : ℕ) → at ≤ length text → Line (due said) text at
+line-decided : (said : Said) (text : List ℕ) (at : ℕ) → at ≤ length text → LineAt (due said) text at
 unfolding due
 line-decided nothing = number-decided key-a _ _
 line-decided (to-a a) = number-decided key-b _ _
@@ -75,7 +68,7 @@ line-decided (to-b a b) = number-decided key-bodies _ _
 line-decided (to-bodies a b n) = number-decided key-edges _ _
 line-decided (to-edges a b n m before) = edge-decided a b n m before
 
-pub line-determined : (said : Said) → Determined (due said)
+line-determined : (said : Said) → Determined (due said)
 unfolding due
 line-determined nothing = number-determined key-a _ _
 line-determined (to-a a) = number-determined key-b _ _
@@ -85,21 +78,17 @@ line-determined (to-edges a b n m before) = edge-line-determined a b n m before
 
 -- ---- its checks
 
-pub data Checked (cs : List Check) : Type 0 where
-  pass : Pass cs → Checked cs
-  fail : (reason : Reason) → Fail cs reason → Checked cs
-
-checked-none : Checked []
-checked-none = pass tt
+checked-none : PassOrFail []
+checked-none = passes tt
 
 -- one check more in front, which says the reason where it fails
-checked-one : {must : Type 0} {cs : List Check} (reason : Reason) → placeOf reason ≡ 0 → Dec must → Checked cs
-    → Checked (plain (numberOf reason) must ∷ cs)
-checked-one reason q (yes h) (pass p) = pass (h, p)
+checked-one : {must : Type 0} {cs : List Check} (reason : Reason) → placeOf reason ≡ 0 → Dec must → PassOrFail cs
+    → PassOrFail (plain (numberOf reason) must ∷ cs)
+checked-one reason q (yes h) (passes p) = passes (h, p)
 checked-one reason q (yes h) (fail why f) = fail why (inr (h, f))
 checked-one reason q (no h) c = fail reason (inl (h, refl, q))
 
-pub line-checked : (said : Said) (value : due said .Value) → Checked (due said .checks value)
+line-checked : (said : Said) (value : due said .Value) → PassOrFail (due said .checks value)
 unfolding due
 line-checked nothing a = checked-one Profile refl (first-dec a) checked-none
 line-checked (to-a a) b = checked-one Profile refl (profile-dec a b) checked-none
@@ -109,10 +98,41 @@ line-checked (to-edges a b n m before) e =
     checked-one Body refl (both-dec n (e .one) (e .other))
     (checked-one SameBody refl (by-eq (e .one) (e .other) (λ h. no (λ k. k h)) (λ h. yes h)) checked-none)
 
-pub line-single : (said : Said) (value : due said .Value) → Single (due said .checks value)
+line-single : (said : Said) (value : due said .Value) → Single (due said .checks value)
 unfolding due
 line-single nothing a = (nothing-single, tt)
 line-single (to-a a) b = (nothing-single, tt)
 line-single (to-b a b) n = (nothing-single, tt)
 line-single (to-bodies a b n) m = (nothing-single, tt)
 line-single (to-edges a b n m before) e = (nothing-single, (nothing-single, tt))
+
+-- ---- the end
+
+ended-dec : (said : Said) (rest : List ℕ) → Dec (Ended said rest)
+ended-dec nothing rest = no (λ e. e)
+ended-dec (to-a a) rest = no (λ e. e)
+ended-dec (to-b a b) rest = no (λ e. e)
+ended-dec (to-bodies a b n) rest = no (λ e. e)
+ended-dec (to-edges a b n m es) [] = by-eq (length es) m (λ h. yes (h, refl)) (λ h. no (λ e. h (e .0)))
+ended-dec (to-edges a b n m es) (x ∷ rest) = no (λ e. let z = ap length (e .1) in absurd (omega arith))
+
+-- when all lines have come none is allowed
+ended-none : (said : Said) (rest : List ℕ) → Ended said rest → (value : due said .Value) (more : List ℕ) → ¬ Next (due said) rest value more
+unfolding due
+ended-none nothing rest e value more next = e
+ended-none (to-a a) rest e value more next = e
+ended-none (to-b a b) rest e value more next = e
+ended-none (to-bodies a b n) rest e value more next = e
+ended-none (to-edges a b n m edges) rest e value more next = absurd (omega (arith, e .0, next .allowed .0))
+
+-- All that a grammar owes: so every text is whole or has one first fault (crate grammar).
+pub book-text-lawful : Lawful bookText
+book-text-lawful =
+    record {
+      decided = line-decided;
+      determined = line-determined;
+      checked = line-checked;
+      single = line-single;
+      ended? = ended-dec;
+      ended-none = ended-none;
+    }

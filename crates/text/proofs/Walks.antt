@@ -1,9 +1,9 @@
 -- The edge lines of a text, one by one: what the loop of `text::walk` knows where it stands.
 --
--- In order: an edge line in range, and one that is at fault; the loop's invariant `Walked`, kept by each edge line; what follows where it
--- stops; the whole text.
+-- In order: an edge line in range, and one that is at fault; the loop's invariant `Walked`, kept by each edge line, whose edge is entered in the lists; what follows where it
+-- stops; the whole text. Not here: the lines of the head (Heads.antt); edges in lists (Lists.antt).
 -- Assumes nothing.
-use mathlib.Core.Path.{_≡_, refl, sym, ap, _∙_, subst}
+use mathlib.Core.Path.{_≡_, refl, sym, ap, _∙_, subst, subst₂}
 use mathlib.Core.Logic.{inl, inr, _≢_}
 use mathlib.Core.List.{List, [], _∷_, _++_}
 use Prim.Native.Nat.{ℕ, _+_, _≤_, _<_}
@@ -13,30 +13,39 @@ use Rattle.rule.specs.Books.{Edge}
 use Rattle.rule.specs.declared.Reason.{Reason}
 use Rattle.rule.specs.declared.Reason.the-variants.{Body, SameBody, Line}
 use Rattle.rule.specs.Sets.{In}
+use Rattle.rule.specs.Books.{capacity}
 use Rattle.rule.specs.Reasons.{Fail}
 use Rattle.rule.proofs.Tests.{cases, by-eq}
 use Rattle.text.specs.declared.EdgeLine.{EdgeLine}
 use Rattle.text.specs.declared.EdgeLine.the-variants.{Joins}
-use Rattle.text.specs.declared.Head.{Head}
 use Rattle.text.specs.declared.Step.{Step}
 use Rattle.text.specs.declared.Step.the-variants.{On}
-use Rattle.text.specs.Sheets.{EdgeRange, edgesText, headText}
+use Rattle.text.specs.Sheets.{Edge, EdgeRange}
 use Rattle.text.specs.Due.{to-edges, linesOf, edgeLine, due}
-use Rattle.text.specs.Faults.{AtFault, Faulty, other, fails}
+use Rattle.grammar.specs.Grammar.{AtFault}
+use Rattle.grammar.specs.Grammar.AtFault.{other, fails}
+use Rattle.grammar.proofs.Runs.{stands-on, stands-fault}
+use Rattle.text.specs.Faults.{Faulty}
 use Rattle.text.specs.Readings.{readEdge}
 use Rattle.text.specs.Judging.{within, joined, readStep}
-use Rattle.text.specs.Judgements.{edgePlace, IsSheet, FaultAt, IsHead}
+use Rattle.text.specs.EdgeLists.{EdgeLists, Roomy, EdgeEntered, EdgesEntered}
+use Rattle.text.specs.Judgements.{IsSheet, FaultAt, IsHead}
 use Rattle.text.proofs.Picks.{pick-is, pick-not, pick-eq, pick-ne}
 use Rattle.text.proofs.Ranges.{within-in, in-within}
+use Rattle.text.proofs.Lists.{entered-none, entered-more, entered-roomy}
 use Rattle.text.proofs.EdgeReads.{EdgeAt, edge-sound, edge-none}
-use Rattle.text.proofs.SheetRuns.{ended-sheet, head-place}
-use Rattle.text.proofs.Heads.{Stands, stands-on, stands-fault}
+use Rattle.text.proofs.SheetRuns.{ended-sheet, edges-few}
+use Rattle.text.proofs.Heads.{Stands}
 
 -- ---- an edge line
 
+-- what the step says of an edge
+abbrev on : Edge → ℕ → Step
+on e next = On (e .one) (e .other) (e .colour) next
+
 -- what the checks say of an edge
 data Ends (n : ℕ) (e : Edge) (next : ℕ) : Step → Type 0 where
-  fine : In n (e .one) → In n (e .other) → e .one ≢ e .other → Ends n e next (On next)
+  fine : In n (e .one) → In n (e .other) → e .one ≢ e .other → Ends n e next (on e next)
   body : ¬ (In n (e .one) × In n (e .other)) → Ends n e next (Step.Refused Body)
   same : In n (e .one) × In n (e .other) → e .one ≡ e .other → Ends n e next (Step.Refused SameBody)
 
@@ -62,23 +71,33 @@ ends-checked n e next =
     (λ i. subst (Ends n e next) (sym (pick-ne _ _ _ _ q ∙ pick-not _ _ _ i)) (body (λ h. i (in-within n (e .one) (h .0))))))
 
 module _ (text : List ℕ) (at n : ℕ) where
-  step-on : (next : ℕ) → readStep n text at ≡ On next → (e : Edge) × EdgeAt text at e next × EdgeRange n e
+  step-on : (u v c next : ℕ) → readStep n text at ≡ On u v c next
+      → let e : Edge = record { one = u; other = v; colour = c } in EdgeAt text at e next × EdgeRange n e
   unfolding readStep joined
-  step-on next h = read (readEdge text at) refl h
+  step-on u v c next h = read (readEdge text at) refl h
     where
-      checked : (e : Edge) (place : ℕ) → EdgeAt text at e place → (x : Step) → Ends n e place x → x ≡ On next
-          → (e : Edge) × EdgeAt text at e next × EdgeRange n e
-      checked e place f x (fine one two differ) q =
+      given : Edge
+      given = record { one = u; other = v; colour = c }
+
+      checked : (e : Edge) (place : ℕ) → EdgeAt text at e place → (x : Step) → Ends n e place x → x ≡ On u v c next
+          → EdgeAt text at given next × EdgeRange n given
+      checked e place f x (fine first second differ) q =
+          let one : e .one ≡ u = cc in
+          let two : e .other ≡ v = cc in
+          let three : e .colour ≡ c = cc in
           let past : place ≡ next = cc in
-          (e, subst (EdgeAt text at e) past f, record { one = one; other = two; different = differ; colour = f .written .colour })
+          let same : e ≡ given = λ i. record { one = one i; other = two i; colour = three i } in (
+            subst₂ (EdgeAt text at) same past f,
+            subst (EdgeRange n) same (record { one = first; other = second; different = differ; colour = f .written .colour }),
+          )
       checked e place f x (body none) q = let z : _≡_ {A = ℕ} 0 1 = cc in absurd (omega arith)
       checked e place f x (same both differ) q = let z : _≡_ {A = ℕ} 0 1 = cc in absurd (omega arith)
 
-      read : (r : EdgeLine) → readEdge text at ≡ r → joined n r ≡ On next → (e : Edge) × EdgeAt text at e next × EdgeRange n e
+      read : (r : EdgeLine) → readEdge text at ≡ r → joined n r ≡ On u v c next → EdgeAt text at given next × EdgeRange n given
       read EdgeLine.Nothing e q = let z : _≡_ {A = ℕ} 0 1 = cc in absurd (omega arith)
-      read (Joins u v c place) e q =
-          let edge : Edge = record { one = u; other = v; colour = c } in
-          checked edge place (edge-sound text at u v c place e) _ (ends-checked n edge place) q
+      read (Joins x y z place) e q =
+          let edge : Edge = record { one = x; other = y; colour = z } in
+          checked edge place (edge-sound text at x y z place e) _ (ends-checked n edge place) q
 
   step-refused : (a b m : ℕ) (before : List Edge) (ended : Type 0) (reason : Reason) → at ≤ length text → length before < m → ¬ ended
       → readStep n text at ≡ Step.Refused reason → AtFault (edgeLine a b n m before) ended (drop at text) reason
@@ -109,74 +128,95 @@ module _ (text : List ℕ) (at n : ℕ) where
 
 -- ---- the loop stands past i edge lines
 
-pub record Walked (text : List ℕ) (h : Head) (at i : ℕ) : Type 0 where
+pub record Walked (text : List ℕ) (a b n m : ℕ) (before : EdgeLists) (at i : ℕ) (after : EdgeLists) : Type 0 where
+  pub room : Roomy before
   pub edges : List Edge
   pub count : length edges ≡ i
-  pub few : i ≤ h .edges
-  pub stands : Stands text at (to-edges (h .a) (h .b) (h .n) (h .edges) edges)
+  pub few : i ≤ m
+  pub stands : Stands text at (to-edges a b n m edges)
+  pub entered : EdgesEntered edges before after
 
-module _ {text : List ℕ} {h : Head} where
-  pub walked-none : IsHead text h → Walked text h (h .first) 0
-  walked-none head =
-      record { edges = []; count = refl; few = omega arith; stands = record { within = head .within; leads = head .leads } }
-
-  pub walked-on : {at i next : ℕ} → Walked text h at i → i < h .edges → readStep (h .n) text at ≡ On next → Walked text h next (i + 1)
-  unfolding due
-  walked-on {at} {i} {next} w some e =
-      let f = step-on text at (h .n) next e in
-      let edge = f .0 in
-      let range = f .2 in
+module _ {text : List ℕ} {a b n m : ℕ} {before : EdgeLists} where
+  pub walked-none : {first : ℕ} → Roomy before → IsHead text a b n m first → Walked text a b n m before first 0 before
+  walked-none room head =
       record {
-        edges = w .edges ++ edge ∷ [];
-        count = omega (arith, length-append (w .edges) (edge ∷ []), w .count);
+        room = room;
+        edges = [];
+        count = refl;
         few = omega arith;
-        stands =
-            stands-on (w .stands) edge next
-            (record { allowed = (omega (arith, w .count), f .1 .written); begins = f .1 .begins })
-            (f .1 .within)
-            ((range .one, range .other), (range .different, tt));
+        stands = record { within = head .within; leads = head .leads };
+        entered = entered-none;
       }
 
-  -- the number of the line that is due
-  walked-line : {at i : ℕ} (w : Walked text h at i) (reason : Reason)
-      → Faulty (to-edges (h .a) (h .b) (h .n) (h .edges) (w .edges)) (drop at text) reason
-      → FaultAt text reason (i + 5) at
-  unfolding linesOf
-  walked-line {at} {i} w reason bad =
-      subst (λ (l : ℕ). FaultAt text reason l at) (omega (arith, w .count)) (stands-fault reason (w .stands) bad)
+  module _ {at i : ℕ} {after : EdgeLists} where
+    -- no more than a book holds
+    walked-few : Walked text a b n m before at i after → m ≤ capacity
+    walked-few w = edges-few (w .stands .leads)
 
-  pub walked-fault : {at i : ℕ} {reason : Reason} → Walked text h at i → i < h .edges → readStep (h .n) text at ≡ Step.Refused reason
-      → FaultAt text reason (i + 5) at
-  unfolding due
-  walked-fault {at} {i} {reason} w some e =
-      walked-line w reason
-      (step-refused text at (h .n) (h .a) (h .b) (h .edges) (w .edges) _ reason (w .stands .within) (omega (arith, w .count))
-      (λ end. absurd (omega (arith, w .count, end .0))) e)
+    -- there is room for one edge more
+    pub walked-room : Walked text a b n m before at i after → i < m → (i < capacity) × Roomy after
+    walked-room w some =
+        let few = walked-few w in
+        (omega arith, entered-roomy (w .entered) (w .room) (omega (arith, w .count)))
 
-  -- all edge lines have come, and something follows
-  pub walked-extra : {at i : ℕ} → Walked text h at i → h .edges ≤ i → at < length text → FaultAt text Line (i + 5) at
-  unfolding due
-  walked-extra {at} {i} w all more =
-      walked-line w Line
-      (other (λ e rest next. absurd (omega (arith, w .count, next .allowed .0)))
-      (λ end. absurd (omega (arith, ap length (end .1), length-drop at text))))
+    pub walked-on : {u v c next : ℕ} {last : EdgeLists} → Walked text a b n m before at i after → i < m → readStep n text at ≡ On u v c next
+        → EdgeEntered i (record { one = u; other = v; colour = c }) after last
+        → Walked text a b n m before next (i + 1) last
+    unfolding due
+    walked-on {u} {v} {c} {next} w some e new =
+        let f = step-on text at n u v c next e in
+        let edge : Edge = record { one = u; other = v; colour = c } in
+        let range = f .1 in
+        record {
+          room = w .room;
+          edges = w .edges ++ edge ∷ [];
+          count = omega (arith, length-append (w .edges) (edge ∷ []), w .count);
+          few = omega arith;
+          stands =
+              stands-on (w .stands) edge next
+              (record { allowed = (omega (arith, w .count), f .0 .written); begins = f .0 .begins })
+              (f .0 .within)
+              ((range .one, range .other), (range .different, tt));
+          entered = entered-more (w .entered) (w .room) (w .count) (walked-room w some .0) new;
+        }
 
-  -- all edge lines have come, and nothing follows
-  pub walked-whole : {at i : ℕ} → IsHead text h → Walked text h at i → h .edges ≤ i → length text ≤ at
-      → IsSheet text (h .a) (h .b) (h .n) (h .edges) (h .first)
-  unfolding edgePlace edgesText
-  walked-whole {at} {i} head w all none =
-      let count : length (w .edges) ≡ h .edges = omega (arith, w .count, w .few) in
-      let s = ended-sheet text (h .a) (h .b) (h .n) (h .edges) (w .edges) (drop at text) (w .stands .leads)
-      (count, drop-of-length-le text {i = at} none) in
-      let place = head-place text (h .a) (h .b) (h .n) (h .edges) (h .first) (head .within) (head .leads) in
-      record {
-        sheet = record { a = h .a; b = h .b; n = h .n; edges = w .edges };
-        range = s .0;
-        is-text = s .1;
-        a-is = refl;
-        b-is = refl;
-        n-is = refl;
-        edges-is = sym count;
-        first-is = omega (arith, place, ap (λ (k : ℕ). length (headText (h .a) (h .b) (h .n) k)) count);
-      }
+    -- the number of the line that is due
+    walked-line : (w : Walked text a b n m before at i after) (reason : Reason) → Faulty (to-edges a b n m (w .edges)) (drop at text) reason
+        → FaultAt text reason (i + 5) at
+    unfolding linesOf
+    walked-line w reason bad =
+        subst (λ (l : ℕ). FaultAt text reason l at) (omega (arith, w .count)) (stands-fault reason (w .stands) bad)
+
+    pub walked-fault : {reason : Reason} → Walked text a b n m before at i after → i < m → readStep n text at ≡ Step.Refused reason
+        → FaultAt text reason (i + 5) at
+    unfolding due
+    walked-fault {reason} w some e =
+        walked-line w reason
+        (step-refused text at n a b m (w .edges) _ reason (w .stands .within) (omega (arith, w .count))
+        (λ end. absurd (omega (arith, w .count, end .0))) e)
+
+    -- all edge lines have come, and something follows
+    pub walked-extra : Walked text a b n m before at i after → m ≤ i → at < length text → FaultAt text Line (i + 5) at
+    unfolding due
+    walked-extra w all more =
+        walked-line w Line
+        (other (λ e rest next. absurd (omega (arith, w .count, next .allowed .0)))
+        (λ end. absurd (omega (arith, ap length (end .1), length-drop at text))))
+
+    -- all edge lines have come, and nothing follows
+    pub walked-whole : Walked text a b n m before at i after → m ≤ i → length text ≤ at
+        → (p : IsSheet text a b n m) × EdgesEntered (p .sheet .edges) before after
+    walked-whole w all none =
+        let count : length (w .edges) ≡ m = omega (arith, w .count, w .few) in
+        let s = ended-sheet text a b n m (w .edges) (drop at text) (w .stands .leads) (count, drop-of-length-le text {i = at} none) in (
+          record {
+            sheet = record { a = a; b = b; n = n; edges = w .edges };
+            range = s .0;
+            is-text = s .1;
+            a-is = refl;
+            b-is = refl;
+            n-is = refl;
+            edges-is = sym count;
+          },
+          w .entered,
+        )

@@ -1,6 +1,7 @@
 -- The line that is due at each place of a text, and what is checked of it: document 01, "Book text" and "Reasons for saying no".
 --
--- In order: what the lines before have said; a line that is due; the table of due lines.
+-- In order: what the lines before have said; the kinds of lines; the table of due lines; book text as a grammar.
+use mathlib.Core.Path.{_≡_}
 use mathlib.Core.Logic.{_≢_}
 use mathlib.Core.List.{List, [], _∷_, _++_}
 use Prim.Native.Nat.{ℕ, _+_, _≤_, _<_}
@@ -8,6 +9,7 @@ use lib.ListN.{length}
 use Rattle.rule.specs.Sets.{In}
 use Rattle.rule.specs.Books.{Edge, ProfileRange, BodiesRange, ColourRange, capacity}
 use Rattle.rule.specs.Reasons.{Check, plain}
+use Rattle.grammar.specs.Grammar.{DueLine, Grammar}
 use Rattle.text.specs.Lines.{Number, line, key-a, key-b, key-bodies, key-edges}
 use Rattle.text.specs.Sheets.{edgeText}
 
@@ -28,17 +30,8 @@ linesOf (to-b a b) = 2
 linesOf (to-bodies a b n) = 3
 linesOf (to-edges a b n m edges) = 4 + length edges
 
--- The line that is due after them. It may say any value that is allowed; its bytes, what has then been said, and the checks,
--- in order, on what it says.
-pub record DueLine : Type 1 where
-  pub Value : Type 0
-  pub Allowed : Value → Type 0
-  pub bytes : Value → List ℕ
-  pub then : Value → Said
-  pub checks : Value → List Check
-
 -- a key and one number
-abbrev pub numberLine : List ℕ → (ℕ → Said) → (ℕ → List Check) → DueLine
+abbrev pub numberLine : List ℕ → (ℕ → Said) → (ℕ → List Check) → DueLine Said
 numberLine key then checks =
     record { Value = ℕ; Allowed = Number; bytes = λ v. line key (v ∷ []); then = then; checks = checks }
 
@@ -57,7 +50,7 @@ abbrev pub EdgeAllowed : ℕ → List Edge → Edge → Type 0
 EdgeAllowed m before e = (length before < m) × Written e
 
 -- an edge line, after those before it: 3 comes before 4
-abbrev pub edgeLine : (a b n m : ℕ) → List Edge → DueLine
+abbrev pub edgeLine : (a b n m : ℕ) → List Edge → DueLine Said
 edgeLine a b n m before =
     record {
       Value = Edge;
@@ -68,9 +61,20 @@ edgeLine a b n m before =
     }
 
 -- lines 1 to 4, and then the edge lines; when they have all come no line is allowed
-unfoldable pub due : Said → DueLine
+unfoldable pub due : Said → DueLine Said
 due nothing = numberLine key-a (λ a. to-a a) (λ a. plain 1 (FirstRange a) ∷ [])
 due (to-a a) = numberLine key-b (λ b. to-b a b) (λ b. plain 1 (ProfileRange a b) ∷ [])
 due (to-b a b) = numberLine key-bodies (λ n. to-bodies a b n) (λ n. plain 2 (BodiesRange n) ∷ [])
 due (to-bodies a b n) = numberLine key-edges (λ m. to-edges a b n m []) (λ m. plain 6 (m ≤ capacity) ∷ [])
 due (to-edges a b n m before) = edgeLine a b n m before
+
+-- all lines have come, and nothing follows
+abbrev pub Ended : Said → List ℕ → Type 0
+Ended nothing rest = ⊥
+Ended (to-a a) rest = ⊥
+Ended (to-b a b) rest = ⊥
+Ended (to-bodies a b n) rest = ⊥
+Ended (to-edges a b n m edges) rest = (length edges ≡ m) × (rest ≡ [])
+
+abbrev pub bookText : Grammar
+bookText = record { Said = Said; nothing = nothing; lines = linesOf; due = due; Ended = Ended }

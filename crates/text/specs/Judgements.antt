@@ -1,46 +1,27 @@
 -- What `judge` and `fault` answer, for every list of bytes.
 --
--- In order: a walk along the edge lines of a sheet; what is said of a text that is a book, and of one that is not; what the inner
--- functions, `judge` and `fault` answer.
+-- In order: what is said of a text that is a book, and of one that is not; what the inner functions, `judge` and `fault` answer. Not here: edges in lists
+-- (specs/EdgeLists.antt).
 use mathlib.Core.Path.{_≡_}
 use mathlib.Core.Logic.{_⊎_}
 use mathlib.Core.List.{List, []}
 use Prim.Native.Nat.{ℕ, _+_, _≤_}
-use lib.ListN.{length, getD, take, drop}
+use lib.ListN.{length, take, drop}
 use denote.Ref.{RefT, now}
 use Rattle.rule.specs.Books.{Edge}
 use Rattle.rule.specs.declared.Reason.{Reason}
-use Rattle.text.specs.declared.Head.{Head}
+use Rattle.grammar.specs.Grammar.{faultIn}
 use Rattle.text.specs.declared.Found.{Found}
 use Rattle.text.specs.declared.Judgement.{Judgement}
-use Rattle.text.specs.declared.EdgeLine.{EdgeLine}
-use Rattle.text.specs.declared.EdgeLine.the-variants.{Joins}
-use Rattle.text.specs.Lines.{firstLine}
-use Rattle.text.specs.Sheets.{Sheet, SheetRange, edgesText, headText, textOf}
+use Rattle.text.specs.Sheets.{Sheet, SheetRange, textOf}
+use Rattle.text.specs.EdgeLists.{EdgeLists, EdgesEntered}
 use Rattle.text.specs.Due.{nothing, to-edges}
 use Rattle.text.specs.Faults.{Leads, Fault, FirstFault, RefusedAt}
 
--- ---- a walk along the edge lines
-
--- edge i, counted from 0, and a blank past the last
-abbrev pub blank : Edge
-blank = record { one = 0; other = 0; colour = 0 }
-
-abbrev pub edgeAt : Sheet → ℕ → Edge
-edgeAt s i = getD (s .edges) i blank
-
--- where the line of edge i begins, and past the last edge where the text ends
-unfoldable pub edgePlace : Sheet → ℕ → ℕ
-edgePlace s i = length (headText (s .a) (s .b) (s .n) (length (s .edges))) + length (edgesText (take i (s .edges)))
-
--- what reading an edge line finds
-abbrev pub joins : Edge → ℕ → EdgeLine
-joins e next = Joins (e .one) (e .other) (e .colour) next
-
 -- ---- what a text is
 
--- the text is that of a sheet in range, with these numbers, and its first edge line begins at `first`
-pub record IsSheet (text : List ℕ) (a b n edges first : ℕ) : Type 0 where
+-- the text is that of a sheet in range, with these numbers
+pub record IsSheet (text : List ℕ) (a b n edges : ℕ) : Type 0 where
   pub sheet : Sheet
   pub range : SheetRange sheet
   pub is-text : text ≡ textOf sheet
@@ -48,34 +29,32 @@ pub record IsSheet (text : List ℕ) (a b n edges first : ℕ) : Type 0 where
   pub b-is : b ≡ sheet .b
   pub n-is : n ≡ sheet .n
   pub edges-is : edges ≡ length (sheet .edges)
-  pub first-is : first ≡ edgePlace sheet 0
 
 -- the first fault of the text: its reason, its line number, and the place where the line begins
 abbrev pub FaultAt : List ℕ → Reason → (line at : ℕ) → Type 0
-FaultAt text reason line at =
-    FirstFault text (record { line = line; reason = reason; start = at; size = length (firstLine (drop at text)) })
+FaultAt text reason line at = FirstFault text (faultIn text line at reason)
 
 -- ---- the inner functions
 
 -- the four lines of the head are due and in range, and the edge lines are due from `first` on
-pub record IsHead (text : List ℕ) (h : Head) : Type 0 where
-  pub within : h .first ≤ length text
-  pub leads : Leads nothing text (to-edges (h .a) (h .b) (h .n) (h .edges) []) (drop (h .first) text)
+pub record IsHead (text : List ℕ) (a b n edges first : ℕ) : Type 0 where
+  pub within : first ≤ length text
+  pub leads : Leads nothing text (to-edges a b n edges []) (drop first text)
 
 abbrev pub HeadFound : List ℕ → Found → Type 0
-HeadFound text (Found.Fine h) = IsHead text h
+HeadFound text (Found.Fine a b n edges first) = IsHead text a b n edges first
 HeadFound text (Found.Fault reason line at) = FaultAt text reason line at
 
-abbrev pub TextFound : List ℕ → Found → Type 0
-TextFound text (Found.Fine h) = IsSheet text (h .a) (h .b) (h .n) (h .edges) (h .first)
-TextFound text (Found.Fault reason line at) = FaultAt text reason line at
+-- the text is that of a sheet in range, and its edges stand in the lists; or the first fault
+abbrev pub TextFound : List ℕ → (before after : EdgeLists) → Found → Type 0
+TextFound text before after (Found.Fine a b n edges first) = (p : IsSheet text a b n edges) × EdgesEntered (p .sheet .edges) before after
+TextFound text before after (Found.Fault reason line at) = FaultAt text reason line at
 
 -- ---- judge
 
--- the answer's cases: a sheet with its numbers and the place of its first edge line; or refused, with the reason, whose number `numberOf` of crate rule gives,
--- and the number of the line at fault
-abbrev pub JudgementSays : (sheet : (a b n edges first : ℕ) → Type 0) (refused : Reason → (line : ℕ) → Type 0) → Judgement → Type 0
-JudgementSays sheet refused (Judgement.Sheet a b n edges first) = sheet a b n edges first
+-- the answer's cases: a sheet with its numbers; or refused, with the reason, whose number `numberOf` of crate rule gives, and the number of the line at fault
+abbrev pub JudgementSays : (sheet : (a b n edges : ℕ) → Type 0) (refused : Reason → (line : ℕ) → Type 0) → Judgement → Type 0
+JudgementSays sheet refused (Judgement.Sheet a b n edges) = sheet a b n edges
 JudgementSays sheet refused (Judgement.Refused reason line) = refused reason line
 
 abbrev pub Judges : List ℕ → Judgement → Type 0

@@ -11,6 +11,8 @@ use Rattle.text.specs.declared.Reading.{Reading}
 use Rattle.text.specs.declared.Reading.the-variants.{Value, Nothing}
 use Rattle.text.specs.declared.EdgeLine.{EdgeLine}
 use Rattle.text.specs.declared.EdgeLine.the-variants.{Joins}
+use Rattle.text.specs.declared.Key.{Key}
+use Rattle.text.specs.declared.Key.the-variants.{Opens}
 use Rattle.text.specs.Lines.{pick, digit, LF, comma, key-red, key-black}
 
 -- the digit that a byte is, or 10 where it is none
@@ -38,9 +40,9 @@ unfoldable pub closed : ℕ → List ℕ → ℕ → Reading → Reading
 closed stop text at (Value value used) = pick (getD text (at + used) 0 =? stop) (Value value (at + used + 1)) Nothing
 closed stop text at Nothing = Nothing
 
--- a number of a text and the byte that ends it
-unfoldable pub readField : ℕ → List ℕ → ℕ → Reading
-readField stop text at = closed stop text at (readNumber 3 (drop at text))
+-- a number of a text, of at most `most` digits, and the byte that ends it
+unfoldable pub readField : (most stop : ℕ) → List ℕ → ℕ → Reading
+readField most stop text at = closed stop text at (readNumber most (drop at text))
 
 unfoldable pub begins : List ℕ → List ℕ → Bool
 begins [] s = true
@@ -52,7 +54,7 @@ beginsAt key text at = pick (length text <? at) false (begins key (drop at text)
 
 -- a line of a key and one number
 unfoldable pub readNumberLine : List ℕ → List ℕ → ℕ → Reading
-readNumberLine key text at = pick (beginsAt key text at) (readField LF text (at + length key)) Nothing
+readNumberLine key text at = pick (beginsAt key text at) (readField 3 LF text (at + length key)) Nothing
 
 -- ---- an edge line
 
@@ -61,14 +63,20 @@ otherEnd one colour (Value other next) = Joins one other colour next
 otherEnd one colour Nothing = EdgeLine.Nothing
 
 unfoldable pub oneEnd : List ℕ → ℕ → Reading → EdgeLine
-oneEnd text colour (Value one middle) = otherEnd one colour (readField LF text middle)
+oneEnd text colour (Value one middle) = otherEnd one colour (readField 3 LF text middle)
 oneEnd text colour Nothing = EdgeLine.Nothing
 
 -- the two numbers of an edge line, past its key
 unfoldable pub readEnds : List ℕ → (at colour : ℕ) → EdgeLine
-readEnds text at colour = oneEnd text colour (readField comma text at)
+readEnds text at colour = oneEnd text colour (readField 3 comma text at)
+
+-- the colour whose key stands there, and the place past it
+unfoldable pub readKey : List ℕ → ℕ → Key
+readKey text at = pick (beginsAt key-red text at) (Opens 1 (at + 4)) (pick (beginsAt key-black text at) (Opens 2 (at + 6)) Key.Nothing)
+
+unfoldable pub keyed : List ℕ → Key → EdgeLine
+keyed text (Opens colour past) = readEnds text past colour
+keyed text Key.Nothing = EdgeLine.Nothing
 
 unfoldable pub readEdge : List ℕ → ℕ → EdgeLine
-readEdge text at =
-    pick (beginsAt key-red text at) (readEnds text (at + 4) 1)
-    (pick (beginsAt key-black text at) (readEnds text (at + 6) 2) EdgeLine.Nothing)
+readEdge text at = keyed text (readKey text at)

@@ -3,11 +3,12 @@ pub mod put;
 
 use rule::Reason;
 ghost use mathlib.Core.Path.{_≡_};
-ghost use Prim.Native.Nat.{_+_, _≤_};
+ghost use Prim.Native.Nat.{_+_, _≤_, _<_};
 ghost use lib.ListN.{length, getD, drop};
 ghost use Rattle.text.specs.Lines.{firstLine};
-ghost use Rattle.text.specs.Readings.{digitOf, taken, readNumber, readField, begins, beginsAt, readNumberLine, readEnds, readEdge};
+ghost use Rattle.text.specs.Readings.{digitOf, taken, readNumber, readField, begins, beginsAt, readNumberLine, readEnds, readKey, readEdge};
 ghost use Rattle.text.specs.Judging.{within, readNumbered, reasonOf, readStep};
+ghost use Rattle.text.specs.EdgeLists.{lists, Roomy, EdgeEntered};
 ghost use Rattle.text.specs.Judgements.{HeadFound, IsHead, TextFound, Judges, Hands};
 
 // What reading a number finds: its value, and how many bytes were used or, at a place of a text, the place past it.
@@ -33,37 +34,39 @@ pub enum Numbered {
     Refused(Reason),
 }
 
-// An edge line in range, as the place past it; or why not.
+// The key that opens an edge line: its colour and the place past it.
+pub enum Key {
+    Opens(u8, usize),
+    Nothing,
+}
+
+// An edge line in range, as its two bodies, its colour and the place past it; or why not.
 pub enum Step {
-    On(usize),
+    On {
+        one: u8,
+        other: u8,
+        colour: u8,
+        next: usize,
+    },
     Refused(Reason),
 }
 
-// The numbers of the four lines of the head, and the place past them.
-pub struct Head {
-    pub a: u8,
-    pub b: u8,
-    pub n: u8,
-    pub edges: u16,
-    pub first: usize,
-}
-
-// The head of a text, or its first fault: the reason, the line's number and the place where the line begins.
+// The numbers of the head and the place past its four lines, or the first fault: the reason, the line's number and the place where the
+// line begins.
 pub enum Found {
-    Fine(Head),
-    Fault(Reason, usize, usize),
-}
-
-// What a text is: a sheet in range, with the number of its edges and the place of its first edge line; or refused, with the number of
-// the line at fault, counted from 1.
-pub enum Judgement {
-    Sheet {
+    Fine {
         a: u8,
         b: u8,
         n: u8,
         edges: u16,
         first: usize,
     },
+    Fault(Reason, usize, usize),
+}
+
+// What a text is: a sheet in range, with the number of its edges; or refused, with the number of the line at fault, counted from 1.
+pub enum Judgement {
+    Sheet { a: u8, b: u8, n: u8, edges: u16 },
     Refused(Reason, usize),
 }
 
@@ -99,7 +102,7 @@ fn taken(value: usize, used: usize) -> Reading
 }
 
 // The number of at most `most` digits that `s` begins with. After a leading zero no digit belongs to it.
-pub fn number(s: &[u8], most: usize) -> Reading
+fn number(s: &[u8], most: usize) -> Reading
     requires { ⌜ most ≤ 5 ⌝ }
     ensures { λ r. ⌜ r ≡ readNumber most (now (s .entry)) ⌝ }
 {
@@ -119,14 +122,15 @@ pub fn number(s: &[u8], most: usize) -> Reading
     taken(value, used)
 }
 
-// The number of one to three digits at a place of a text, with the byte `stop` after it.
-pub fn field(text: &[u8], at: usize, stop: u8) -> Reading
-    ensures { λ r. ⌜ r ≡ readField stop (now (text .entry)) at ⌝ }
+// The number of one to `most` digits at a place of a text, with the byte `stop` after it.
+fn field(text: &[u8], at: usize, stop: u8, most: usize) -> Reading
+    requires { ⌜ (1 ≤ most) × (most ≤ 5) ⌝ }
+    ensures { λ r. ⌜ r ≡ readField most stop (now (text .entry)) at ⌝ }
 {
     if text.len() < at {
         return Reading::Nothing;
     }
-    let r = number(&text[at..], 3);
+    let r = number(&text[at..], most);
     let Reading::Value(value, used) = r else {
         return Reading::Nothing;
     };
@@ -166,11 +170,11 @@ fn begins_at(text: &[u8], at: usize, key: &[u8]) -> bool
 }
 
 // The line of a key and one number at a place of a text.
-pub fn number_line(text: &[u8], at: usize, key: &[u8]) -> Reading
+fn number_line(text: &[u8], at: usize, key: &[u8]) -> Reading
     ensures { λ r. ⌜ r ≡ readNumberLine (now (key .entry)) (now (text .entry)) at ⌝ }
 {
     if begins_at(text, at, key) {
-        field(text, at + key.len(), b'\n')
+        field(text, at + key.len(), b'\n', 3)
     } else {
         Reading::Nothing
     }
@@ -180,11 +184,11 @@ pub fn number_line(text: &[u8], at: usize, key: &[u8]) -> Reading
 fn ends(text: &[u8], at: usize, colour: u8) -> EdgeLine
     ensures { λ r. ⌜ r ≡ readEnds (now (text .entry)) at colour ⌝ }
 {
-    let first = field(text, at, b',');
+    let first = field(text, at, b',', 3);
     let Reading::Value(one, middle) = first else {
         return EdgeLine::Nothing;
     };
-    let second = field(text, middle, b'\n');
+    let second = field(text, middle, b'\n', 3);
     let Reading::Value(other, next) = second else {
         return EdgeLine::Nothing;
     };
@@ -196,17 +200,28 @@ fn ends(text: &[u8], at: usize, colour: u8) -> EdgeLine
     }
 }
 
-// The edge line at a place of a text.
-pub fn edge_at(text: &[u8], at: usize) -> EdgeLine
-    ensures { λ r. ⌜ r ≡ readEdge (now (text .entry)) at ⌝ }
+// The key at a place of a text.
+fn key_at(text: &[u8], at: usize) -> Key
+    ensures { λ r. ⌜ r ≡ readKey (now (text .entry)) at ⌝ }
 {
     if begins_at(text, at, b"red=") {
-        return ends(text, at + 4, 1);
+        return Key::Opens(1, at + 4);
     }
     if begins_at(text, at, b"black=") {
-        return ends(text, at + 6, 2);
+        return Key::Opens(2, at + 6);
     }
-    EdgeLine::Nothing
+    Key::Nothing
+}
+
+// The edge line at a place of a text.
+fn edge_at(text: &[u8], at: usize) -> EdgeLine
+    ensures { λ r. ⌜ r ≡ readEdge (now (text .entry)) at ⌝ }
+{
+    let key = key_at(text, at);
+    match key {
+        Key::Opens(colour, past) => ends(text, past, colour),
+        Key::Nothing => EdgeLine::Nothing,
+    }
 }
 
 // Whether x is one of low to high.
@@ -236,13 +251,14 @@ fn number_in(text: &[u8], at: usize, key: &[u8], low: usize, high: usize, why: R
 
 // The edge line at a place, between two different bodies of 1 to n. An edge from a body to itself is refused for the body first.
 fn edge_in(text: &[u8], at: usize, n: usize) -> Step
+    requires { ⌜ n < 256 ⌝ }
     ensures { λ r. ⌜ r ≡ readStep n (now (text .entry)) at ⌝ }
 {
     let e = edge_at(text, at);
     let EdgeLine::Joins {
         one,
         other,
-        colour: _,
+        colour,
         next,
     } = e
     else {
@@ -256,7 +272,12 @@ fn edge_in(text: &[u8], at: usize, n: usize) -> Step
     }
     if within(1, n, one) {
         if within(1, n, other) {
-            return Step::On(next);
+            return Step::On {
+                one: one as u8,
+                other: other as u8,
+                colour,
+                next,
+            };
         }
     }
     Step::Refused(Reason::Body)
@@ -292,28 +313,68 @@ fn head_of(text: &[u8]) -> Found
     let Numbered::Value(edges, first) = four else {
         return Found::Fault(why(four), 4, fourth);
     };
-    Found::Fine(Head {
+    Found::Fine {
         a: a as u8,
         b: b as u8,
         n: n as u8,
         edges: edges as u16,
         first,
-    })
+    }
 }
 
-// The edge lines after a head, and that nothing follows them.
-fn walk(text: &[u8], head: Head) -> Found
-    requires { ⌜ IsHead (now text) head ⌝ }
-    ensures { λ r. ⌜ TextFound (now (text .entry)) r ⌝ }
+// An edge is entered in the lists at a place.
+fn enter(
+    i: usize,
+    one: u8,
+    other: u8,
+    colour: u8,
+    ones: &mut [u8; 512],
+    others: &mut [u8; 512],
+    colours: &mut [u8; 512],
+)
+    requires { ⌜ (i < 512) × Roomy (lists (now ones) (now others) (now colours)) ⌝ }
+    ensures { λ r. ⌜ EdgeEntered i (record { one = one; other = other; colour = colour })
+        (lists (now (ones .entry)) (now (others .entry)) (now (colours .entry)))
+        (lists (now (ones .exit)) (now (others .exit)) (now (colours .exit))) ⌝ }
 {
-    let n = head.n as usize;
-    let edges = head.edges as usize;
-    let mut at = head.first;
+    ones[i] = one;
+    others[i] = other;
+    colours[i] = colour;
+}
+
+// The edge lines after a head, each entered in the lists, and that nothing follows them.
+fn walk(
+    text: &[u8],
+    a: u8,
+    b: u8,
+    n: u8,
+    edges: u16,
+    first: usize,
+    ones: &mut [u8; 512],
+    others: &mut [u8; 512],
+    colours: &mut [u8; 512],
+) -> Found
+    requires { ⌜ Roomy (lists (now ones) (now others) (now colours)) × IsHead (now text) a b n edges first ⌝ }
+    ensures { λ r. ⌜ TextFound (now (text .entry))
+        (lists (now (ones .entry)) (now (others .entry)) (now (colours .entry)))
+        (lists (now (ones .exit)) (now (others .exit)) (now (colours .exit))) r ⌝ }
+{
+    let bodies = n as usize;
+    let last = edges as usize;
+    let mut at = first;
     let mut i = 0;
-    while i < edges {
-        let line = edge_in(text, at, n);
+    while i < last {
+        let line = edge_in(text, at, bodies);
         match line {
-            Step::On(next) => at = next,
+            Step::On {
+                one,
+                other,
+                colour,
+                next,
+            } => {
+                enter(i, one, other, colour, ones, others, colours);
+                at = next;
+            }
             Step::Refused(reason) => return Found::Fault(reason, i + 5, at),
         }
         i += 1;
@@ -321,16 +382,37 @@ fn walk(text: &[u8], head: Head) -> Found
     if at < text.len() {
         return Found::Fault(Reason::Line, i + 5, at);
     }
-    Found::Fine(head)
+    Found::Fine {
+        a,
+        b,
+        n,
+        edges,
+        first,
+    }
 }
 
-// The head of a text that is a book, or the first fault of one that is not.
-fn find(text: &[u8]) -> Found
-    ensures { λ r. ⌜ TextFound (now (text .entry)) r ⌝ }
+// The head of a text that is a book, its edges in the lists, in front of what these held; or the first fault of one that is not. Each line
+// is read once.
+pub fn find(
+    text: &[u8],
+    ones: &mut [u8; 512],
+    others: &mut [u8; 512],
+    colours: &mut [u8; 512],
+) -> Found
+    requires { ⌜ Roomy (lists (now ones) (now others) (now colours)) ⌝ }
+    ensures { λ r. ⌜ TextFound (now (text .entry))
+        (lists (now (ones .entry)) (now (others .entry)) (now (colours .entry)))
+        (lists (now (ones .exit)) (now (others .exit)) (now (colours .exit))) r ⌝ }
 {
     let found = head_of(text);
     match found {
-        Found::Fine(head) => walk(text, head),
+        Found::Fine {
+            a,
+            b,
+            n,
+            edges,
+            first,
+        } => walk(text, a, b, n, edges, first, ones, others, colours),
         Found::Fault(reason, line, at) => Found::Fault(reason, line, at),
     }
 }
@@ -339,15 +421,18 @@ fn find(text: &[u8]) -> Found
 pub fn judge(text: &[u8]) -> Judgement
     ensures { λ r. ⌜ Judges (now (text .entry)) r ⌝ }
 {
-    let found = find(text);
+    let mut ones = [0u8; 512];
+    let mut others = [0u8; 512];
+    let mut colours = [0u8; 512];
+    let found = find(text, &mut ones, &mut others, &mut colours);
     match found {
-        Found::Fine(head) => Judgement::Sheet {
-            a: head.a,
-            b: head.b,
-            n: head.n,
-            edges: head.edges,
-            first: head.first,
-        },
+        Found::Fine {
+            a,
+            b,
+            n,
+            edges,
+            first: _,
+        } => Judgement::Sheet { a, b, n, edges },
         Found::Fault(reason, line, _) => Judgement::Refused(reason, line),
     }
 }
@@ -373,9 +458,18 @@ fn line_end(text: &[u8], at: usize) -> usize
 pub fn fault(text: &[u8]) -> &[u8]
     ensures { λ r. ⌜ Hands (text .entry) r ⌝ }
 {
-    let found = find(text);
+    let mut ones = [0u8; 512];
+    let mut others = [0u8; 512];
+    let mut colours = [0u8; 512];
+    let found = find(text, &mut ones, &mut others, &mut colours);
     match found {
-        Found::Fine(_) => {
+        Found::Fine {
+            a: _,
+            b: _,
+            n: _,
+            edges: _,
+            first: _,
+        } => {
             let end = text.len();
             &text[end..]
         }

@@ -15,13 +15,13 @@ use Rattle.text.proofs.fault.Tie as tie
 
 -- the first fault, which `find` has found
 abbrev text : tie.After-known-told → List ℕ
-text c = now (c .before .before .before .before .before .args .text)
+text c = now (c .before .before .before .before .before .before .before .before .args .text)
 
 abbrev at : tie.After-known-told → ℕ
 at c = c .before .found .given .0 .1 .1 .0
 
 found-fault : (c : tie.After-known-told) → FaultAt (text c) (c .before .found .given .0 .0) (c .before .found .given .0 .1 .0) (at c)
-found-fault c = subst (TextFound (text c)) (c .before .found .given .1) (c .before .before .before .find .ensures)
+found-fault c = subst (TextFound (text c) _ _) (c .before .found .given .1) (c .before .before .before .find .ensures)
 
 -- its line ends within the text
 end-within : (c : tie.After-line-end) → c .line-end .result ≤ length (text (c .before))
@@ -38,8 +38,8 @@ part-result-end-2 c = end-within c
 returns : tie.Need-returns
 returns c =
     let d = c .before in
-    let all = now (d .before .before .before .before .args .text) in
-    let sheet = subst (TextFound all) (d .enum-told .given .1) (d .before .before .find .ensures) in
+    let all = now (d .before .before .before .before .before .before .before .args .text) in
+    let sheet = subst (TextFound all _ _) (d .enum-told .given .1) (d .before .before .find .ensures) .0 in
     let none : length all - length all ≡ 0 = omega arith in
     inr (
       sheet .sheet,

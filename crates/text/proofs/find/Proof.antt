@@ -8,8 +8,11 @@ use Rattle.text.proofs.find.Tie as tie
 
 walk-requires : tie.Need-walk-requires
 walk-requires c κs =
-    let d = c .before .before .before in
-    subst (HeadFound (now (d .before .before .args .text))) (c .before .found .given .1) (d .head-of .ensures)
+    let told = c .before .before .before .before in
+    let d = told .before .before in
+    let start = d .before .before in
+    let head = subst (HeadFound (now (start .args .text))) (told .found .given .1) (d .head-of .ensures) in
+    (start .pre, head)
 
 returns : tie.Need-returns
 returns c = c .walk .ensures
