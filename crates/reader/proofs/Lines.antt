@@ -1,171 +1,95 @@
--- A book that grows while its text is read. The edge line that is due is read as it stands in the sheet, so the edge passes the checks of
--- an offer; when it has been taken, the book has been offered one edge more, and the place is that of the next line. At first no edge has
--- been offered, and at the end all have.
+-- A book that grows from lists of edges. Each edge of the sheet is in range, so it passes the checks of an offer; when it has been taken, the
+-- book has been offered one edge more. At first no edge has been offered, and the lists of a text that is a sheet hold its edges.
+-- Not here: that the lists hold them (crate text, proofs/Lists.antt).
 -- Assumes nothing.
-use mathlib.Core.Path.{_≡_, refl, sym, ap, _∙_, subst, subst₂}
-use mathlib.Core.List.{List, _∷_, [], _++_}
-use Prim.Native.Nat.{ℕ, suc, _+_, _≤_, _<_}
-use native.Mathlib.Numerals.{add-one}
+use mathlib.Core.Path.{_≡_, sym, ap, _∙_, subst}
+use mathlib.Core.List.{List}
+use Prim.Native.Nat.{ℕ, suc, _≤_, _<_}
 use native.Mathlib.Omega.{arith}
-use lib.ListN.{length, take}
-use lib.Seq.{take-suc, take-all}
+use lib.ListN.{length}
 use Rattle.rule.specs.declared.Book.{Book}
 use Rattle.rule.specs.declared.Answer.{Answer}
-use Rattle.rule.specs.Sets.{In}
-use Rattle.rule.specs.Books.{Edge, Sound, Obeys, ProfileRange, BodiesRange}
+use Rattle.rule.specs.Books.{ProfileRange, BodiesRange, capacity}
 use Rattle.rule.specs.Reasons.{Pass, offerChecks}
 use Rattle.rule.specs.Calls.{newBook}
-use Rattle.text.specs.Sheets.{Sheet, EdgeRange}
-use Rattle.text.specs.declared.EdgeLine.{EdgeLine}
-use Rattle.text.specs.declared.EdgeLine.the-variants.{Joins}
-use Rattle.text.specs.Readings.{readEdge}
-use Rattle.text.specs.Judgements.{blank, edgeAt, edgePlace, joins, IsSheet}
-use Rattle.text.proofs.Answers.{walk-on, walk-range}
+use Rattle.text.specs.Sheets.{Edge, SheetRange, textOf}
+use Rattle.text.specs.EdgeLists.{EdgeLists, Roomy, EdgesEntered, edgeIn, edgesIn, sheetIn}
+use Rattle.text.specs.Judgements.{IsSheet}
+use Rattle.text.proofs.Lists.{entered-roomy, edge-in-range, edges-in-length, entered-sheet}
 use Rattle.pages.specs.Reads.{Offers, Reads}
 use Rattle.pages.specs.Reads.Offers.{none, then}
 use Rattle.planting.specs.Calls.{Sized}
 use Rattle.labels.specs.Labels.{Begun}
 use Rattle.book.specs.Scan.{Cleared}
 use Rattle.book.proofs.Scanning.{scanning-none, scanned-all}
-use Rattle.placing.specs.Take.{Ready, Takes, Takeable}
+use Rattle.placing.specs.Take.{Takes, Takeable}
 use Rattle.step.proofs.Runs.{Grew, new-grew, offer-grew}
 use Rattle.reader.specs.Growing.{Growing}
 
-opened-same : {text : List ℕ} {a b n m first : ℕ} (p : IsSheet text a b n m first) → newBook (p .sheet .a) (p .sheet .b) (p .sheet .n) ≡ newBook a b n
-opened-same {b = b} {n = n} p =
-    ap (λ (x : ℕ). newBook x (p .sheet .b) (p .sheet .n)) (sym (p .a-is)) ∙ ap (λ (x : ℕ). newBook _ x (p .sheet .n)) (sym (p .b-is))
-    ∙ ap (newBook _ _) (sym (p .n-is))
+-- a sheet has no more edges than a list has places
+pub lists-few : {a b n : ℕ} (m : ℕ) (given : EdgeLists) → SheetRange (sheetIn a b n m given) → m ≤ capacity
+lists-few m given r = omega (arith, r .few, edges-in-length given m)
 
-module _ {text : List ℕ} {m : ℕ} {B : Book} {at : ℕ} {root way who edge size : List ℕ} (g : Growing text m B at root way who edge size) where
-  abbrev is-sheet : IsSheet text (g .sheet .a) (g .sheet .b) (g .sheet .n) m (edgePlace (g .sheet) 0)
-  is-sheet =
-      record {
-        sheet = g .sheet;
-        range = g .range;
-        is-text = g .is-text;
-        a-is = refl;
-        b-is = refl;
-        n-is = refl;
-        edges-is = g .all;
-        first-is = refl;
-      }
+module _ {given : EdgeLists} {m : ℕ} {B : Book} {root way who edge size : List ℕ} (r : SheetRange (sheetIn (B .a) (B .b) (B .n) m given))
+    (g : Growing given B root way who edge size) (more : B .count < m) where
+  -- the edge that is due
+  abbrev due : Edge
+  due = edgeIn given (B .count)
 
-  -- the edge whose line is due
-  abbrev pub due : Edge
-  due = edgeAt (g .sheet) (B .count)
+  due-passes : (list : List ℕ) → 378 ≤ length list → Pass (offerChecks B (due .one) (due .other) (due .colour) list)
+  due-passes list long =
+      let e = edge-in-range given (B .n) m (B .count) (r .edges) more in (
+        g .sound,
+        (e .colour, ((e .one, e .other), (e .different, (long, (omega (arith, more, lists-few m given r), tt))))),
+      )
 
-  pub due-read : B .count < m → readEdge text at ≡ joins due (edgePlace (g .sheet) (B .count + 1))
-  due-read h = ap (readEdge text) (g .place) ∙ walk-on is-sheet (B .count) h
+  pub due-takeable : (list : List ℕ) → 378 ≤ length list → Takeable B (due .one) (due .other) (due .colour) list root way who edge size
+  due-takeable list long = record { checked = due-passes list long; ready = g .ready }
 
-  pub due-range : B .count < m → EdgeRange (B .n) due
-  due-range h = subst (λ (n : ℕ). EdgeRange n due) (sym (g .n-is)) (walk-range is-sheet (B .count) h)
-
-  pub due-passes : (list : List ℕ) → B .count < m → 378 ≤ length list → Pass (offerChecks B (due .one) (due .other) (due .colour) list)
-  due-passes list h long =
-      let r = due-range h in
-      (g .sound, (r .colour, ((r .one, r .other), (r .different, (long, (omega (arith, h, g .all, g .range .few), tt))))))
-
-  pub due-takeable : (list : List ℕ) → B .count < m → 378 ≤ length list
-      → Takeable B (due .one) (due .other) (due .colour) list root way who edge size
-  due-takeable list h long = record { checked = due-passes list h long; ready = g .ready }
-
-  -- the edge has been taken
-  pub grows : (after : Book) (list listed root′ way′ who′ edge′ size′ : List ℕ) (answer : Answer) → B .count < m → 378 ≤ length list
-      → after .count ≡ suc (B .count) → after .n ≡ B .n
+  -- it has been taken
+  pub grows : (after : Book) (list listed root′ way′ who′ edge′ size′ : List ℕ) (answer : Answer) → 378 ≤ length list
+      → newBook (after .a) (after .b) (after .n) ≡ newBook (B .a) (B .b) (B .n) → after .count ≡ suc (B .count)
       → Takes B after (due .one) (due .other) (due .colour) list listed root′ way′ who′ edge′ size′ answer
-      → Growing text m after (edgePlace (g .sheet) (B .count + 1)) root′ way′ who′ edge′ size′
-  grows after list listed root′ way′ who′ edge′ size′ answer h long counts n-same t =
+      → Growing given after root′ way′ who′ edge′ size′
+  unfolding edgesIn
+  grows after list listed root′ way′ who′ edge′ size′ answer long same counts t =
       let old : Grew B = record { sound = g .sound; grown = g .grown; full = g .ready .full } in
       let new = offer-grew (due .one) (due .other) (due .colour) list listed answer (t .offer) old in
-      let one-more : take (after .count) (g .sheet .edges) ≡ take (B .count) (g .sheet .edges) ++ due ∷ [] =
-      ap (λ (i : ℕ). take i (g .sheet .edges)) counts ∙ take-suc (g .sheet .edges) (B .count) blank (omega (arith, h, g .all)) in
+      let one-more : Offers (newBook (B .a) (B .b) (B .n)) (edgesIn given (suc (B .count))) after =
+      then due list listed answer (g .offers) (due-passes list long) (t .offer) in
       record {
-        sheet = g .sheet;
-        range = g .range;
-        is-text = g .is-text;
-        all = g .all;
-        few = omega (arith, h, counts);
-        n-is = n-same ∙ g .n-is;
-        place = ap (edgePlace (g .sheet)) (add-one (B .count) ∙ sym counts);
         offers =
-            subst (λ (es : List Edge). Offers (newBook (g .sheet .a) (g .sheet .b) (g .sheet .n)) es after) (sym one-more)
-            (then due list listed answer (g .offers) (due-passes list h long) (t .offer));
+            subst (λ (k : ℕ). Offers (newBook (after .a) (after .b) (after .n)) (edgesIn given k) after) (sym counts)
+            (subst (λ (C : Book). Offers C (edgesIn given (suc (B .count))) after) (sym same) one-more);
         sound = new .sound;
         grown = new .grown;
         ready = t .ready;
       }
 
-  -- ---- the same of a line that was read
-
-  abbrev Small : EdgeLine → Type 0
-  Small (Joins one other colour next) = (one < 256) × (other < 256)
-  Small EdgeLine.Nothing = ⊥
-
-  head-bodies : B .n ≤ 64
-  unfolding Sound Obeys
-  head-bodies = g .sound 0 (omega arith) .bodies .high
-
-  pub line-small : B .count < m → (line : EdgeLine) → line ≡ readEdge text at → Small line
-  line-small h line e =
-      let r = due-range h in
-      subst Small (sym (e ∙ due-read h)) (omega (arith, r .one .high, head-bodies), omega (arith, r .other .high, head-bodies))
-
-  abbrev CanTake : List ℕ → EdgeLine → Type 0
-  CanTake list (Joins one other colour next) = Takeable B one other colour list root way who edge size
-  CanTake list EdgeLine.Nothing = ⊥
-
-  pub line-takeable : (list : List ℕ) → B .count < m → 378 ≤ length list → (line : EdgeLine) → line ≡ readEdge text at → CanTake list line
-  line-takeable list h long line e = subst (CanTake list) (sym (e ∙ due-read h)) (due-takeable list h long)
-
-  -- all edges have been offered
-  pub all-offered : m ≤ B .count → Reads text B
-  all-offered l =
-      record {
-        sheet = g .sheet;
-        range = g .range;
-        is-text = g .is-text;
-        offers =
-            subst (λ (es : List Edge). Offers (newBook (g .sheet .a) (g .sheet .b) (g .sheet .n)) es B)
-            (take-all (B .count) (g .sheet .edges) (omega (arith, l, g .all))) (g .offers);
-      }
-
--- the edge of a line that was read has been taken
-abbrev Grown-by : (text : List ℕ) (m : ℕ) (B after : Book) (list listed root′ way′ who′ edge′ size′ : List ℕ) → Answer → EdgeLine → Type 0
-Grown-by text m B after list listed root′ way′ who′ edge′ size′ answer (Joins one other colour next) =
-    Takes B after one other colour list listed root′ way′ who′ edge′ size′ answer → Growing text m after next root′ way′ who′ edge′ size′
-Grown-by text m B after list listed root′ way′ who′ edge′ size′ answer EdgeLine.Nothing = ⊥
-
-pub line-grows : {text : List ℕ} {m : ℕ} {B : Book} {at : ℕ} {root way who edge size : List ℕ} → Growing text m B at root way who edge size
-    → (after : Book) (list listed root′ way′ who′ edge′ size′ : List ℕ) (answer : Answer) → B .count < m → 378 ≤ length list
-    → after .count ≡ suc (B .count) → after .n ≡ B .n → (line : EdgeLine) → line ≡ readEdge text at
-    → Grown-by text m B after list listed root′ way′ who′ edge′ size′ answer line
-line-grows {text} {m} {B} g after list listed root′ way′ who′ edge′ size′ answer h long counts n-same line e =
-    subst (Grown-by text m B after list listed root′ way′ who′ edge′ size′ answer) (sym (e ∙ due-read g h))
-    (grows g after list listed root′ way′ who′ edge′ size′ answer h long counts n-same)
-
 -- no edge has been offered, and no table holds any
-pub grows-none : {text : List ℕ} {a b n m first : ℕ} (p : IsSheet text a b n m first) (root way who edge size : List ℕ)
-    → Sized root way who edge size → Begun root who → Cleared size → Growing text m (newBook a b n) first root way who edge size
-unfolding newBook
-grows-none {text} {a} {b} {n} {m} {first} p root way who edge size sized begun clear =
-    let s = p .sheet in
+pub grows-none : {given : EdgeLists} {a b n : ℕ} (root way who edge size : List ℕ) → ProfileRange a b → BodiesRange n
+    → Sized root way who edge size → Begun root who → Cleared size → Growing given (newBook a b n) root way who edge size
+unfolding newBook edgesIn
+grows-none {a = a} {b} {n} root way who edge size profile bodies sized begun clear =
     let B = newBook a b n in
-    let a-same = p .a-is in
-    let b-same = p .b-is in
-    let profile : ProfileRange a b = subst₂ ProfileRange (sym a-same) (sym b-same) (p .range .profile) in
-    let bodies : BodiesRange n = subst BodiesRange (sym (p .n-is)) (p .range .bodies) in
     let grew = new-grew a b n profile bodies in
     let empty = scanned-all B 0 root way who edge size (scanning-none B root way who edge size sized begun clear) (omega arith) in
     record {
-      sheet = s;
-      range = p .range;
-      is-text = p .is-text;
-      all = p .edges-is;
-      few = omega arith;
-      n-is = p .n-is;
-      place = p .first-is;
-      offers = subst (λ (C : Book). Offers (newBook (s .a) (s .b) (s .n)) [] C) (opened-same p) none;
+      offers = none;
       sound = grew .sound;
       grown = grew .grown;
       ready = record { tabled = empty .first .1; sized = sized; full = grew .full };
     }
+
+-- ---- the lists of a text
+
+module _ {text : List ℕ} {a b n m : ℕ} {before given : EdgeLists} (p : IsSheet text a b n m) (l : EdgesEntered (p .sheet .edges) before given) where
+  pub lists-roomy : Roomy before → Roomy given
+  lists-roomy room = entered-roomy l room (p .range .few)
+
+  pub lists-range : SheetRange (sheetIn a b n m given)
+  lists-range = subst SheetRange (sym (entered-sheet p l)) (p .range)
+
+  -- when all edges have been offered the text has been read
+  pub all-offered : {B : Book} → Offers (newBook a b n) (edgesIn given m) B → Reads text B
+  all-offered o = record { sheet = sheetIn a b n m given; range = lists-range; is-text = p .is-text ∙ ap textOf (sym (entered-sheet p l)); offers = o }

@@ -1,84 +1,21 @@
-// Reading book text: a book is opened and offered the edges in order. The tables of the forests are kept from one edge to the next (crate
-// placing), so that a text of 512 edges costs no scan of the book but one look at each line more.
+// Reading book text: each line is read once, and its edge entered in lists (crate text); then a book is opened and offered the edges in
+// order. The tables of the forests are kept from one edge to the next (crate placing), so that no scan of the book is made.
 ghost use mathlib.Core.Path.{_≡_};
-ghost use Prim.Native.Nat.{ℕ, _<_, _≤_};
-ghost use lib.ListN.{length};
-ghost use Rattle.text.specs.Judgements.{IsSheet};
-ghost use Rattle.pages.specs.Reads.{Reads, Receives};
-ghost use Rattle.placing.specs.Seek.{bookOf};
-ghost use Rattle.placing.specs.Take.{longer};
-ghost use Rattle.reader.specs.Growing.{Growing, LineDue};
+ghost use Rattle.rule.specs.Calls.{newBook};
+ghost use Rattle.text.specs.Sheets.{SheetRange};
+ghost use Rattle.text.specs.EdgeLists.{lists, Roomy, edgesIn, sheetIn};
+ghost use Rattle.pages.specs.Reads.{Offers, Receives};
 use pages::Read;
 use pages::Received;
 use pages::State;
 use placing::Head;
 use rule::Book;
-use text::EdgeLine;
-use text::Judgement;
+use text::Found;
 
-// The edge line at a place of the text is offered; the place past it is answered.
-fn take_line(
-    text: &[u8],
-    at: usize,
-    head: Head,
-    ones: &mut [u8; 512],
-    others: &mut [u8; 512],
-    colours: &mut [u8; 512],
-    forests: &mut [u8; 512],
-    root: &mut [u8; 384],
-    way: &mut [u64; 384],
-    who: &mut [u64; 384],
-    edge: &mut [u16; 384],
-    size: &mut [u8; 6],
-    queue: &mut [u16; 379],
-    from: &mut [u16; 379],
-    path: &mut [u16; 379],
-    list: &mut [u16],
-) -> usize
-    requires { ⌜ (length (now queue) ≡ 379) × (length (now from) ≡ 379) × (length (now path) ≡ 379) × (378 ≤ length (now list))
-        × LineDue (now text) (bookOf head (now ones) (now others) (now colours) (now forests)) at (now root) (now way) (now who) (now edge) (now size) ⌝ }
-    ensures { λ r. ⌜ (length (now (queue .exit)) ≡ 379) × (length (now (from .exit)) ≡ 379) × (length (now (path .exit)) ≡ 379)
-        × ((m : ℕ) → head .count < m
-        → Growing (now (text .entry)) m (bookOf head (now (ones .entry)) (now (others .entry)) (now (colours .entry)) (now (forests .entry))) at (now (root .entry)) (now (way .entry)) (now (who .entry)) (now (edge .entry)) (now (size .entry))
-        → Growing (now (text .entry)) m (bookOf (longer head) (now (ones .exit)) (now (others .exit)) (now (colours .exit)) (now (forests .exit))) r (now (root .exit)) (now (way .exit)) (now (who .exit)) (now (edge .exit)) (now (size .exit))) ⌝ }
-{
-    let line = text::edge_at(text, at);
-    match line {
-        EdgeLine::Joins {
-            one,
-            other,
-            colour,
-            next,
-        } => {
-            placing::take(
-                head,
-                one as u8,
-                other as u8,
-                colour,
-                ones,
-                others,
-                colours,
-                forests,
-                root,
-                way,
-                who,
-                edge,
-                size,
-                queue,
-                from,
-                path,
-                list,
-            );
-            next
-        }
-        EdgeLine::Nothing => at,
-    }
-}
-
-// The book of a text that is one.
-fn grow(text: &[u8], a: u8, b: u8, n: u8, edges: u16, first: usize) -> Book
-    requires { ⌜ IsSheet (now text) a b n edges first ⌝ }
-    ensures { λ r. ⌜ Reads (now (text .entry)) r ⌝ }
+// The book of a sheet whose edges stand in lists: a book is opened and offered the edges in order.
+fn grow(a: u8, b: u8, n: u8, edges: u16, us: &[u8; 512], vs: &[u8; 512], cs: &[u8; 512]) -> Book
+    requires { ⌜ Roomy (lists (now us) (now vs) (now cs)) × SheetRange (sheetIn a b n edges (lists (now us) (now vs) (now cs))) ⌝ }
+    ensures { λ r. ⌜ Offers (newBook a b n) (edgesIn (lists (now (us .entry)) (now (vs .entry)) (now (cs .entry))) edges) r ⌝ }
 {
     let mut ones = [0u8; 512];
     let mut others = [0u8; 512];
@@ -94,14 +31,15 @@ fn grow(text: &[u8], a: u8, b: u8, n: u8, edges: u16, first: usize) -> Book
     let mut path = [0u16; 379];
     let mut list = [0u16; 378];
     labels::begin(&mut root, &mut who);
-    let mut at = first;
     let mut count: u16 = 0;
     while count < edges {
         let head = Head { a, b, n, count };
-        at = take_line(
-            text,
-            at,
+        let i = count as usize;
+        placing::take(
             head,
+            us[i],
+            vs[i],
+            cs[i],
             &mut ones,
             &mut others,
             &mut colours,
@@ -134,19 +72,22 @@ fn grow(text: &[u8], a: u8, b: u8, n: u8, edges: u16, first: usize) -> Book
 pub fn read(text: &[u8]) -> Read
     ensures { λ r. ⌜ Receives (now (text .entry)) (r .book) (r .received) ⌝ }
 {
-    let found = text::judge(text);
+    let mut us = [0u8; 512];
+    let mut vs = [0u8; 512];
+    let mut cs = [0u8; 512];
+    let found = text::find(text, &mut us, &mut vs, &mut cs);
     match found {
-        Judgement::Sheet {
+        Found::Fine {
             a,
             b,
             n,
             edges,
-            first,
+            first: _,
         } => Read {
             received: Received::Fine,
-            book: grow(text, a, b, n, edges, first),
+            book: grow(a, b, n, edges, &us, &vs, &cs),
         },
-        Judgement::Refused(reason, line) => Read {
+        Found::Fault(reason, line, _) => Read {
             received: Received::Refused(reason, line),
             book: book::new_book(0, 0, 0),
         },
