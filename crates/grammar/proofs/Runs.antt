@@ -11,7 +11,7 @@ use native.Mathlib.Omega.{arith}
 use lib.ListN.{length, drop}
 use Rattle.rule.specs.declared.Reason.{Reason}
 use Rattle.rule.specs.Reasons.{Pass}
-use Rattle.grammar.specs.Grammar.{Grammar, Next, Leads, Faulty, FirstFault, faultIn}
+use Rattle.grammar.specs.Grammar.{Grammar, Next, Leads, Faulty, FirstFault, faultIn, RefusedAt}
 use Rattle.grammar.specs.Grammar.Leads.{here, one-line}
 
 module _ {g : Grammar} where
@@ -43,3 +43,7 @@ module _ {g : Grammar} {text : List ℕ} where
       → FirstFault g text (faultIn text (suc (g .lines said)) at reason)
   stands-fault reason s bad =
       record { said = _; within = s .within; before = s .leads; number = refl; at-fault = bad; part = refl }
+
+  pub stands-refused : {at : ℕ} {said : g .Said} (reason : Reason) → Stands g text at said → Faulty g said (drop at text) reason
+      → RefusedAt g text reason (suc (g .lines said))
+  stands-refused reason s bad = (_, stands-fault reason s bad, refl, refl)

@@ -10,7 +10,7 @@ use pages::Received;
 use pages::State;
 use placing::Head;
 use rule::Book;
-use text::Found;
+use text::Judgement;
 
 // The book of a sheet whose edges stand in lists: a book is opened and offered the edges in order.
 fn grow(a: u8, b: u8, n: u8, edges: u16, us: &[u8; 512], vs: &[u8; 512], cs: &[u8; 512]) -> Book
@@ -77,17 +77,11 @@ pub fn read(text: &[u8]) -> Read
     let mut cs = [0u8; 512];
     let found = text::find(text, &mut us, &mut vs, &mut cs);
     match found {
-        Found::Fine {
-            a,
-            b,
-            n,
-            edges,
-            first: _,
-        } => Read {
+        Judgement::Sheet { a, b, n, edges } => Read {
             received: Received::Fine,
             book: grow(a, b, n, edges, &us, &vs, &cs),
         },
-        Found::Fault(reason, line, _) => Read {
+        Judgement::Refused(reason, line) => Read {
             received: Received::Refused(reason, line),
             book: book::new_book(0, 0, 0),
         },

@@ -5,10 +5,10 @@
 -- that the line at fault begins within the first 7,224.
 -- Not here: the theorem (crate grammar, proofs/Cuts.antt); that no text longer than 6,172 bytes is a book (Sizes.antt).
 -- Assumes nothing.
-use mathlib.Core.Path.{_≡_, refl, ap}
+use mathlib.Core.Path.{_≡_, ap}
 use mathlib.Core.Logic.{⊎-elim, _↔_}
 use mathlib.Core.List.{List, [], _∷_}
-use Prim.Native.Nat.{ℕ, suc, _≤_, _<_}
+use Prim.Native.Nat.{ℕ, _≤_, _<_}
 use native.Mathlib.Omega.{arith}
 use lib.ListN.{length, take, length-append}
 use Rattle.rule.specs.declared.Reason.{Reason}
@@ -25,7 +25,7 @@ use Rattle.text.specs.Faults.{Leads, Fault, FirstFault, RefusedAt}
 use Rattle.text.proofs.Numerals.{numeral-few}
 use Rattle.text.proofs.EdgeReads.{key-of-red, key-of-black}
 use Rattle.text.proofs.Sizes.{line-length, number-line-length}
-use Rattle.text.proofs.Steps.{book-text-lawful}
+use Rattle.text.proofs.Steps.{line-counted, book-text-lawful}
 
 -- ---- a line that is due is short
 
@@ -60,14 +60,6 @@ line-short (to-bodies a b n) m h = number-short key-edges m (omega arith) h
 line-short (to-edges a b n m es) e h = edge-short e (h .1)
 
 -- ---- the lines are few
-
-line-counted : (said : Said) (value : due said .Value) → linesOf (due said .then value) ≡ suc (linesOf said)
-unfolding linesOf due
-line-counted nothing a = refl
-line-counted (to-a a) b = refl
-line-counted (to-b a b) n = refl
-line-counted (to-bodies a b n) m = refl
-line-counted (to-edges a b n m es) e = omega (arith, length-append es (e ∷ []))
 
 Few : Said → Type 0
 Few nothing = Unit

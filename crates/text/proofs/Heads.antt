@@ -1,4 +1,4 @@
--- The head of a text, line by line: what `text::head_of` knows where it stands.
+-- The head of a text, line by line: what `text::find` knows where it stands.
 --
 -- In order: a number line in range, and one that is at fault, for any line of one number and one check; a place that is reached; the
 -- four lines of the head.
@@ -22,11 +22,11 @@ use Rattle.text.specs.Lines.{key-a, key-b, key-bodies, key-edges}
 use Rattle.text.specs.Due.{Said, nothing, to-a, to-b, to-bodies, to-edges, linesOf, numberLine, FirstRange, due, bookText}
 use Rattle.grammar.specs.Grammar.{Next, AtFault}
 use Rattle.grammar.specs.Grammar.AtFault.{other, fails}
-use Rattle.grammar.proofs.Runs.{stands-on, stands-fault}
+use Rattle.grammar.proofs.Runs.{stands-on, stands-refused}
 use Rattle.grammar.proofs.Runs as runs
+use Rattle.text.specs.Faults.{RefusedAt}
 use Rattle.text.specs.Readings.{readNumberLine}
 use Rattle.text.specs.Judging.{within, ranged, readNumbered}
-use Rattle.text.specs.Judgements.{FaultAt}
 use Rattle.text.proofs.Picks.{pick-is, pick-not}
 use Rattle.text.proofs.Ranges.{within-of, within-is, in-within, first-within, within-first, second-within, within-profile}
 use Rattle.text.proofs.LineReads.{NumberLineAt, number-line-sound, number-line-none}
@@ -102,10 +102,10 @@ module _ {text : List ℕ} {at : ℕ} where
       (range, stands-on s a next (numbered-next f) (f .there .within) (range, tt))
 
   pub fault-a : (reason : Reason) → Stands text at nothing → readNumbered key-a 1 3 Profile text at ≡ Numbered.Refused reason
-      → FaultAt text reason 1 at
+      → RefusedAt text reason 1
   unfolding due linesOf
   fault-a reason s e =
-      stands-fault reason s (numbered-fault key-a 1 3 Profile _ _ first-within refl text at reason _ (s .within) (λ end. end) e)
+      stands-refused reason s (numbered-fault key-a 1 3 Profile _ _ first-within refl text at reason _ (s .within) (λ end. end) e)
 
   pub line-b : (a b next : ℕ) → FirstRange a → Stands text at (to-a a) → readNumbered key-b 1 3 Profile text at ≡ Numbered.Value b next
       → ProfileRange a b × Stands text next (to-b a b)
@@ -116,10 +116,10 @@ module _ {text : List ℕ} {at : ℕ} where
       (range, stands-on s b next (numbered-next f) (f .there .within) (range, tt))
 
   pub fault-b : (a : ℕ) (reason : Reason) → Stands text at (to-a a) → readNumbered key-b 1 3 Profile text at ≡ Numbered.Refused reason
-      → FaultAt text reason 2 at
+      → RefusedAt text reason 2
   unfolding due linesOf
   fault-b a reason s e =
-      stands-fault reason s (numbered-fault key-b 1 3 Profile _ _ second-within refl text at reason _ (s .within) (λ end. end) e)
+      stands-refused reason s (numbered-fault key-b 1 3 Profile _ _ second-within refl text at reason _ (s .within) (λ end. end) e)
 
   pub line-bodies : (a b n next : ℕ) → Stands text at (to-b a b) → readNumbered key-bodies 1 64 Bodies text at ≡ Numbered.Value n next
       → BodiesRange n × Stands text next (to-bodies a b n)
@@ -129,10 +129,10 @@ module _ {text : List ℕ} {at : ℕ} where
       (numbered-in f, stands-on s n next (numbered-next f) (f .there .within) (numbered-in f, tt))
 
   pub fault-bodies : (a b : ℕ) (reason : Reason) → Stands text at (to-b a b) → readNumbered key-bodies 1 64 Bodies text at ≡ Numbered.Refused reason
-      → FaultAt text reason 3 at
+      → RefusedAt text reason 3
   unfolding due linesOf
   fault-bodies a b reason s e =
-      stands-fault reason s
+      stands-refused reason s
       (numbered-fault key-bodies 1 64 Bodies _ _ (in-within 64) refl text at reason _ (s .within) (λ end. end) e)
 
   pub line-edges : (a b n m next : ℕ) → Stands text at (to-bodies a b n) → readNumbered key-edges 0 capacity Full text at ≡ Numbered.Value m next
@@ -144,8 +144,8 @@ module _ {text : List ℕ} {at : ℕ} where
 
   pub fault-edges : (a b n : ℕ) (reason : Reason) → Stands text at (to-bodies a b n)
       → readNumbered key-edges 0 capacity Full text at ≡ Numbered.Refused reason
-      → FaultAt text reason 4 at
+      → RefusedAt text reason 4
   unfolding due linesOf
   fault-edges a b n reason s e =
-      stands-fault reason s
+      stands-refused reason s
       (numbered-fault key-edges 0 capacity Full _ _ (λ v h. within-is 0 capacity v (omega arith) h) refl text at reason _ (s .within) (λ end. end) e)

@@ -15,5 +15,6 @@ pub mod Overwrites
 pub mod Lists
 pub mod Walks
 pub mod LineEnds
+pub mod LineStarts
 pub mod Answers
 pub mod Cuts

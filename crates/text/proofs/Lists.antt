@@ -10,13 +10,17 @@ use Prim.Native.Nat.{ℕ, zero, suc, _≤_, _<_}
 use native.Mathlib.Omega.{arith}
 use lib.ListN.{length, getD, take, drop, set, length-map, length-append, List·getD-append, List·getD-map}
 use lib.Seq.{take-suc, take-length}
+use Rattle.rule.specs.declared.Reason.{Reason}
 use Rattle.rule.specs.Books.{capacity}
 use Rattle.rule.specs.Calls.{Filled}
 use Rattle.rule.proofs.Tests.{by-le}
+use Rattle.text.specs.declared.Judgement.{Judgement}
 use Rattle.text.specs.Puts.{Writes}
-use Rattle.text.specs.Sheets.{Edge, EdgeRange, EdgesRange}
+use Rattle.text.specs.Sheets.{Edge, Sheet, EdgeRange, EdgesRange}
+use Rattle.text.specs.Faults.{RefusedAt}
 use Rattle.text.specs.EdgeLists.{EdgeLists, Roomy, EdgeEntered, EdgesEntered, blank, edgeIn, edgesIn, sheetIn}
-use Rattle.text.specs.Judgements.{IsSheet}
+use Rattle.text.specs.Judgements.{IsSheet, Enters}
+use Rattle.text.proofs.Answers.{same-sheet, never-both}
 use Rattle.text.proofs.Overwrites.{writes-as, writes-more, writes-length}
 
 -- ---- entered
@@ -103,7 +107,21 @@ module _ (l : EdgeLists) where
   edges-in-length zero = refl
   edges-in-length (suc m) = omega (arith, length-append (edgesIn l m) (edgeIn l m ∷ []), edges-in-length m)
 
--- ---- the sheet of a text
+-- ---- the text
+
+-- one that is refused is that of no sheet, and another of one only
+pub enters-refused : {text : List ℕ} {before after : EdgeLists} {reason : Reason} {line : ℕ} → RefusedAt text reason line
+    → Enters text before after (Judgement.Refused reason line)
+enters-refused {text} p = record { judges = p; entered = λ s range is. never-both text s (p .0) range is (p .1) }
+
+pub enters-sheet : {text : List ℕ} {before after : EdgeLists} {a b n m : ℕ} (p : IsSheet text a b n m) → EdgesEntered (p .sheet .edges) before after
+    → Enters text before after (Judgement.Sheet a b n m)
+enters-sheet {text} {before} {after} p l =
+    record {
+      judges = p;
+      entered = λ s range is.
+          subst (λ (t : Sheet). EdgesEntered (t .edges) before after) (same-sheet text (p .sheet) s (p .range) range (p .is-text) is) l;
+    }
 
 pub entered-sheet : {text : List ℕ} {a b n m : ℕ} {before after : EdgeLists} (p : IsSheet text a b n m) → EdgesEntered (p .sheet .edges) before after
     → sheetIn a b n m after ≡ p .sheet

@@ -5,9 +5,9 @@
 use mathlib.Core.Path.{_≡_, refl, sym, ap, _∙_}
 use mathlib.Core.Logic.{inl, inr}
 use mathlib.Core.List.{List, [], _∷_}
-use Prim.Native.Nat.{ℕ, _≤_, _<_}
+use Prim.Native.Nat.{ℕ, suc, _≤_, _<_}
 use native.Mathlib.Omega.{arith}
-use lib.ListN.{length}
+use lib.ListN.{length, length-append}
 use Rattle.rule.specs.declared.Reason.{Reason}
 use Rattle.rule.specs.declared.Reason.the-variants.{Profile, Bodies, Body, SameBody, Full}
 use Rattle.rule.specs.Books.{capacity}
@@ -22,7 +22,7 @@ use Rattle.grammar.specs.Grammar.{Next}
 use Rattle.grammar.proofs.Outcomes.{LineAt, is-due, is-other, Determined, PassOrFail, passes, fail, Lawful}
 use Rattle.text.specs.Lines.{key-a, key-b, key-bodies, key-edges}
 use Rattle.text.specs.Sheets.{Edge}
-use Rattle.text.specs.Due.{Said, nothing, to-a, to-b, to-bodies, to-edges, numberLine, edgeLine, due, Ended, bookText}
+use Rattle.text.specs.Due.{Said, nothing, to-a, to-b, to-bodies, to-edges, linesOf, numberLine, edgeLine, due, Ended, bookText}
 use Rattle.text.specs.Readings.{readNumberLine, readEdge}
 use Rattle.text.proofs.Ranges.{le-dec, in-dec, both-dec, first-dec, profile-dec}
 use Rattle.text.proofs.LineReads.{number-line-determined, number-line-sound, number-line-none}
@@ -75,6 +75,15 @@ line-determined (to-a a) = number-determined key-b _ _
 line-determined (to-b a b) = number-determined key-bodies _ _
 line-determined (to-bodies a b n) = number-determined key-edges _ _
 line-determined (to-edges a b n m before) = edge-line-determined a b n m before
+
+-- it is one line more
+pub line-counted : (said : Said) (value : due said .Value) → linesOf (due said .then value) ≡ suc (linesOf said)
+unfolding linesOf due
+line-counted nothing a = refl
+line-counted (to-a a) b = refl
+line-counted (to-b a b) n = refl
+line-counted (to-bodies a b n) m = refl
+line-counted (to-edges a b n m es) e = omega (arith, length-append es (e ∷ []))
 
 -- ---- its checks
 

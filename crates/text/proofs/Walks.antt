@@ -18,21 +18,22 @@ use Rattle.rule.specs.Reasons.{Fail}
 use Rattle.rule.proofs.Tests.{cases, by-eq}
 use Rattle.text.specs.declared.EdgeLine.{EdgeLine}
 use Rattle.text.specs.declared.EdgeLine.the-variants.{Joins}
+use Rattle.text.specs.declared.Judgement.{Judgement}
 use Rattle.text.specs.declared.Step.{Step}
 use Rattle.text.specs.declared.Step.the-variants.{On}
 use Rattle.text.specs.Sheets.{Edge, EdgeRange}
 use Rattle.text.specs.Due.{to-edges, linesOf, edgeLine, due}
 use Rattle.grammar.specs.Grammar.{AtFault}
 use Rattle.grammar.specs.Grammar.AtFault.{other, fails}
-use Rattle.grammar.proofs.Runs.{stands-on, stands-fault}
-use Rattle.text.specs.Faults.{Faulty}
+use Rattle.grammar.proofs.Runs.{stands-on, stands-refused}
+use Rattle.text.specs.Faults.{Faulty, RefusedAt}
 use Rattle.text.specs.Readings.{readEdge}
 use Rattle.text.specs.Judging.{within, joined, readStep}
 use Rattle.text.specs.EdgeLists.{EdgeLists, Roomy, EdgeEntered, EdgesEntered}
-use Rattle.text.specs.Judgements.{IsSheet, FaultAt, IsHead}
+use Rattle.text.specs.Judgements.{IsHead, Enters}
 use Rattle.text.proofs.Picks.{pick-is, pick-not, pick-eq, pick-ne}
 use Rattle.text.proofs.Ranges.{within-in, in-within}
-use Rattle.text.proofs.Lists.{entered-none, entered-more, entered-roomy}
+use Rattle.text.proofs.Lists.{entered-none, entered-more, entered-roomy, enters-sheet}
 use Rattle.text.proofs.EdgeReads.{EdgeAt, edge-sound, edge-none}
 use Rattle.text.proofs.SheetRuns.{ended-sheet, edges-few}
 use Rattle.text.proofs.Heads.{Stands}
@@ -182,13 +183,13 @@ module _ {text : List ℕ} {a b n m : ℕ} {before : EdgeLists} where
 
     -- the number of the line that is due
     walked-line : (w : Walked text a b n m before at i after) (reason : Reason) → Faulty (to-edges a b n m (w .edges)) (drop at text) reason
-        → FaultAt text reason (i + 5) at
+        → RefusedAt text reason (i + 5)
     unfolding linesOf
     walked-line w reason bad =
-        subst (λ (l : ℕ). FaultAt text reason l at) (omega (arith, w .count)) (stands-fault reason (w .stands) bad)
+        subst (RefusedAt text reason) (omega (arith, w .count)) (stands-refused reason (w .stands) bad)
 
     pub walked-fault : {reason : Reason} → Walked text a b n m before at i after → i < m → readStep n text at ≡ Step.Refused reason
-        → FaultAt text reason (i + 5) at
+        → RefusedAt text reason (i + 5)
     unfolding due
     walked-fault {reason} w some e =
         walked-line w reason
@@ -196,7 +197,7 @@ module _ {text : List ℕ} {a b n m : ℕ} {before : EdgeLists} where
         (λ end. absurd (omega (arith, w .count, end .0))) e)
 
     -- all edge lines have come, and something follows
-    pub walked-extra : Walked text a b n m before at i after → m ≤ i → at < length text → FaultAt text Line (i + 5) at
+    pub walked-extra : Walked text a b n m before at i after → m ≤ i → at < length text → RefusedAt text Line (i + 5)
     unfolding due
     walked-extra w all more =
         walked-line w Line
@@ -205,18 +206,18 @@ module _ {text : List ℕ} {a b n m : ℕ} {before : EdgeLists} where
 
     -- all edge lines have come, and nothing follows
     pub walked-whole : Walked text a b n m before at i after → m ≤ i → length text ≤ at
-        → (p : IsSheet text a b n m) × EdgesEntered (p .sheet .edges) before after
+        → Enters text before after (Judgement.Sheet a b n m)
     walked-whole w all none =
         let count : length (w .edges) ≡ m = omega (arith, w .count, w .few) in
-        let s = ended-sheet text a b n m (w .edges) (drop at text) (w .stands .leads) (count, drop-of-length-le text {i = at} none) in (
-          record {
-            sheet = record { a = a; b = b; n = n; edges = w .edges };
-            range = s .0;
-            is-text = s .1;
-            a-is = refl;
-            b-is = refl;
-            n-is = refl;
-            edges-is = sym count;
-          },
-          w .entered,
-        )
+        let s = ended-sheet text a b n m (w .edges) (drop at text) (w .stands .leads) (count, drop-of-length-le text {i = at} none) in
+        enters-sheet
+        (record {
+          sheet = record { a = a; b = b; n = n; edges = w .edges };
+          range = s .0;
+          is-text = s .1;
+          a-is = refl;
+          b-is = refl;
+          n-is = refl;
+          edges-is = sym count;
+        })
+        (w .entered)

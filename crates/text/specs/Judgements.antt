@@ -1,6 +1,6 @@
 -- What `judge` and `fault` answer, for every list of bytes.
 --
--- In order: what is said of a text that is a book, and of one that is not; what the inner functions, `judge` and `fault` answer. Not here: edges in lists
+-- In order: what is said of a text that is a book, and of one that is not; what the inner functions say; the part that `fault` hands back. Not here: edges in lists
 -- (specs/EdgeLists.antt).
 use mathlib.Core.Path.{_≡_}
 use mathlib.Core.Logic.{_⊎_}
@@ -10,8 +10,6 @@ use lib.ListN.{length, take, drop}
 use denote.Ref.{RefT, now}
 use Rattle.rule.specs.Books.{Edge}
 use Rattle.rule.specs.declared.Reason.{Reason}
-use Rattle.grammar.specs.Grammar.{faultIn}
-use Rattle.text.specs.declared.Found.{Found}
 use Rattle.text.specs.declared.Judgement.{Judgement}
 use Rattle.text.specs.Sheets.{Sheet, SheetRange, textOf}
 use Rattle.text.specs.EdgeLists.{EdgeLists, EdgesEntered}
@@ -30,9 +28,13 @@ pub record IsSheet (text : List ℕ) (a b n edges : ℕ) : Type 0 where
   pub n-is : n ≡ sheet .n
   pub edges-is : edges ≡ length (sheet .edges)
 
--- the first fault of the text: its reason, its line number, and the place where the line begins
-abbrev pub FaultAt : List ℕ → Reason → (line at : ℕ) → Type 0
-FaultAt text reason line at = FirstFault text (faultIn text line at reason)
+-- the answer's cases: a sheet with its numbers; or refused, with the reason, whose number `numberOf` of crate rule gives, and the number of the line at fault
+abbrev pub JudgementSays : (sheet : (a b n edges : ℕ) → Type 0) (refused : Reason → (line : ℕ) → Type 0) → Judgement → Type 0
+JudgementSays sheet refused (Judgement.Sheet a b n edges) = sheet a b n edges
+JudgementSays sheet refused (Judgement.Refused reason line) = refused reason line
+
+abbrev pub Judges : List ℕ → Judgement → Type 0
+Judges text = JudgementSays (IsSheet text) (RefusedAt text)
 
 -- ---- the inner functions
 
@@ -41,24 +43,17 @@ pub record IsHead (text : List ℕ) (a b n edges first : ℕ) : Type 0 where
   pub within : first ≤ length text
   pub leads : Leads nothing text (to-edges a b n edges []) (drop first text)
 
-abbrev pub HeadFound : List ℕ → Found → Type 0
-HeadFound text (Found.Fine a b n edges first) = IsHead text a b n edges first
-HeadFound text (Found.Fault reason line at) = FaultAt text reason line at
+-- the text is judged, and where it is that of a sheet in range the edges of this stand in the lists
+pub record Enters (text : List ℕ) (before after : EdgeLists) (found : Judgement) : Type 0 where
+  pub judges : Judges text found
+  pub entered : (s : Sheet) → SheetRange s → text ≡ textOf s → EdgesEntered (s .edges) before after
 
--- the text is that of a sheet in range, and its edges stand in the lists; or the first fault
-abbrev pub TextFound : List ℕ → (before after : EdgeLists) → Found → Type 0
-TextFound text before after (Found.Fine a b n edges first) = (p : IsSheet text a b n edges) × EdgesEntered (p .sheet .edges) before after
-TextFound text before after (Found.Fault reason line at) = FaultAt text reason line at
+-- the first fault of the text is in this line, and begins at this place
+abbrev pub LineRefused : List ℕ → (line : ℕ) → Type 0
+LineRefused text line = (f : Fault) × FirstFault text f × (line ≡ f .line)
 
--- ---- judge
-
--- the answer's cases: a sheet with its numbers; or refused, with the reason, whose number `numberOf` of crate rule gives, and the number of the line at fault
-abbrev pub JudgementSays : (sheet : (a b n edges : ℕ) → Type 0) (refused : Reason → (line : ℕ) → Type 0) → Judgement → Type 0
-JudgementSays sheet refused (Judgement.Sheet a b n edges) = sheet a b n edges
-JudgementSays sheet refused (Judgement.Refused reason line) = refused reason line
-
-abbrev pub Judges : List ℕ → Judgement → Type 0
-Judges text = JudgementSays (IsSheet text) (RefusedAt text)
+abbrev pub LineBegins : List ℕ → (line at : ℕ) → Type 0
+LineBegins text line at = (f : Fault) × FirstFault text f × (line ≡ f .line) × (at ≡ f .start)
 
 -- ---- fault
 

@@ -9,7 +9,7 @@ ghost use Rattle.text.specs.Lines.{firstLine};
 ghost use Rattle.text.specs.Readings.{digitOf, taken, readNumber, readField, begins, beginsAt, readNumberLine, readEnds, readKey, readEdge};
 ghost use Rattle.text.specs.Judging.{within, readNumbered, reasonOf, readStep};
 ghost use Rattle.text.specs.EdgeLists.{lists, Roomy, EdgeEntered};
-ghost use Rattle.text.specs.Judgements.{HeadFound, IsHead, TextFound, Judges, Hands};
+ghost use Rattle.text.specs.Judgements.{IsHead, Enters, Judges, LineRefused, LineBegins, Hands};
 
 // What reading a number finds: its value, and how many bytes were used or, at a place of a text, the place past it.
 pub enum Reading {
@@ -42,26 +42,8 @@ pub enum Key {
 
 // An edge line in range, as its two bodies, its colour and the place past it; or why not.
 pub enum Step {
-    On {
-        one: u8,
-        other: u8,
-        colour: u8,
-        next: usize,
-    },
+    On(u8, u8, u8, usize),
     Refused(Reason),
-}
-
-// The numbers of the head and the place past its four lines, or the first fault: the reason, the line's number and the place where the
-// line begins.
-pub enum Found {
-    Fine {
-        a: u8,
-        b: u8,
-        n: u8,
-        edges: u16,
-        first: usize,
-    },
-    Fault(Reason, usize, usize),
 }
 
 // What a text is: a sheet in range, with the number of its edges; or refused, with the number of the line at fault, counted from 1.
@@ -272,12 +254,7 @@ fn edge_in(text: &[u8], at: usize, n: usize) -> Step
     }
     if within(1, n, one) {
         if within(1, n, other) {
-            return Step::On {
-                one: one as u8,
-                other: other as u8,
-                colour,
-                next,
-            };
+            return Step::On(one as u8, other as u8, colour, next);
         }
     }
     Step::Refused(Reason::Body)
@@ -290,35 +267,6 @@ fn why(r: Numbered) -> Reason
     match r {
         Numbered::Refused(reason) => reason,
         Numbered::Value(_, _) => Reason::Line,
-    }
-}
-
-// The four lines of the head.
-fn head_of(text: &[u8]) -> Found
-    ensures { λ r. ⌜ HeadFound (now (text .entry)) r ⌝ }
-{
-    let one = number_in(text, 0, b"a=", 1, 3, Reason::Profile);
-    let Numbered::Value(a, second) = one else {
-        return Found::Fault(why(one), 1, 0);
-    };
-    let two = number_in(text, second, b"b=", 1, 3, Reason::Profile);
-    let Numbered::Value(b, third) = two else {
-        return Found::Fault(why(two), 2, second);
-    };
-    let three = number_in(text, third, b"bodies=", 1, 64, Reason::Bodies);
-    let Numbered::Value(n, fourth) = three else {
-        return Found::Fault(why(three), 3, third);
-    };
-    let four = number_in(text, fourth, b"edges=", 0, 512, Reason::Full);
-    let Numbered::Value(edges, first) = four else {
-        return Found::Fault(why(four), 4, fourth);
-    };
-    Found::Fine {
-        a: a as u8,
-        b: b as u8,
-        n: n as u8,
-        edges: edges as u16,
-        first,
     }
 }
 
@@ -353,9 +301,9 @@ fn walk(
     ones: &mut [u8; 512],
     others: &mut [u8; 512],
     colours: &mut [u8; 512],
-) -> Found
+) -> Judgement
     requires { ⌜ Roomy (lists (now ones) (now others) (now colours)) × IsHead (now text) a b n edges first ⌝ }
-    ensures { λ r. ⌜ TextFound (now (text .entry))
+    ensures { λ r. ⌜ Enters (now (text .entry))
         (lists (now (ones .entry)) (now (others .entry)) (now (colours .entry)))
         (lists (now (ones .exit)) (now (others .exit)) (now (colours .exit))) r ⌝ }
 {
@@ -366,55 +314,59 @@ fn walk(
     while i < last {
         let line = edge_in(text, at, bodies);
         match line {
-            Step::On {
-                one,
-                other,
-                colour,
-                next,
-            } => {
+            Step::On(one, other, colour, next) => {
                 enter(i, one, other, colour, ones, others, colours);
                 at = next;
             }
-            Step::Refused(reason) => return Found::Fault(reason, i + 5, at),
+            Step::Refused(reason) => return Judgement::Refused(reason, i + 5),
         }
         i += 1;
     }
     if at < text.len() {
-        return Found::Fault(Reason::Line, i + 5, at);
+        return Judgement::Refused(Reason::Line, i + 5);
     }
-    Found::Fine {
-        a,
-        b,
-        n,
-        edges,
-        first,
-    }
+    Judgement::Sheet { a, b, n, edges }
 }
 
-// The head of a text that is a book, its edges in the lists, in front of what these held; or the first fault of one that is not. Each line
-// is read once.
+// What a text is, and the edges of a sheet in the lists, in front of what these held. Each line is read once.
 pub fn find(
     text: &[u8],
     ones: &mut [u8; 512],
     others: &mut [u8; 512],
     colours: &mut [u8; 512],
-) -> Found
+) -> Judgement
     requires { ⌜ Roomy (lists (now ones) (now others) (now colours)) ⌝ }
-    ensures { λ r. ⌜ TextFound (now (text .entry))
+    ensures { λ r. ⌜ Enters (now (text .entry))
         (lists (now (ones .entry)) (now (others .entry)) (now (colours .entry)))
         (lists (now (ones .exit)) (now (others .exit)) (now (colours .exit))) r ⌝ }
 {
-    let found = head_of(text);
-    match found {
-        Found::Fine {
-            a,
-            b,
-            n,
-            edges,
-            first,
-        } => walk(text, a, b, n, edges, first, ones, others, colours),
-        Found::Fault(reason, line, at) => Found::Fault(reason, line, at),
-    }
+    let one = number_in(text, 0, b"a=", 1, 3, Reason::Profile);
+    let Numbered::Value(a, second) = one else {
+        return Judgement::Refused(why(one), 1);
+    };
+    let two = number_in(text, second, b"b=", 1, 3, Reason::Profile);
+    let Numbered::Value(b, third) = two else {
+        return Judgement::Refused(why(two), 2);
+    };
+    let three = number_in(text, third, b"bodies=", 1, 64, Reason::Bodies);
+    let Numbered::Value(n, fourth) = three else {
+        return Judgement::Refused(why(three), 3);
+    };
+    let four = number_in(text, fourth, b"edges=", 0, 512, Reason::Full);
+    let Numbered::Value(edges, first) = four else {
+        return Judgement::Refused(why(four), 4);
+    };
+    walk(
+        text,
+        a as u8,
+        b as u8,
+        n as u8,
+        edges as u16,
+        first,
+        ones,
+        others,
+        colours,
+    )
 }
 
 // What a text is, for every list of bytes.
@@ -424,17 +376,7 @@ pub fn judge(text: &[u8]) -> Judgement
     let mut ones = [0u8; 512];
     let mut others = [0u8; 512];
     let mut colours = [0u8; 512];
-    let found = find(text, &mut ones, &mut others, &mut colours);
-    match found {
-        Found::Fine {
-            a,
-            b,
-            n,
-            edges,
-            first: _,
-        } => Judgement::Sheet { a, b, n, edges },
-        Found::Fault(reason, line, _) => Judgement::Refused(reason, line),
-    }
+    find(text, &mut ones, &mut others, &mut colours)
 }
 
 // Where the line that begins at a place ends: at its LF, or at the text's end.
@@ -453,27 +395,38 @@ fn line_end(text: &[u8], at: usize) -> usize
     end
 }
 
+// Where the line at fault begins, by its number.
+fn line_start(text: &[u8], line: usize) -> usize
+    requires { ⌜ LineRefused (now text) line ⌝ }
+    ensures { λ r. ⌜ LineBegins (now (text .entry)) line r ⌝ }
+{
+    let mut at = 0;
+    let mut i = 1;
+    while i < line {
+        at = line_end(text, at) + 1;
+        i += 1;
+    }
+    at
+}
+
 // The line at fault, without its LF, as a part of the text; for a missing line, and where nothing is refused, the empty part at the
 // text's end.
 pub fn fault(text: &[u8]) -> &[u8]
     ensures { λ r. ⌜ Hands (text .entry) r ⌝ }
 {
-    let mut ones = [0u8; 512];
-    let mut others = [0u8; 512];
-    let mut colours = [0u8; 512];
-    let found = find(text, &mut ones, &mut others, &mut colours);
+    let found = judge(text);
     match found {
-        Found::Fine {
+        Judgement::Sheet {
             a: _,
             b: _,
             n: _,
             edges: _,
-            first: _,
         } => {
             let end = text.len();
             &text[end..]
         }
-        Found::Fault(_, _, at) => {
+        Judgement::Refused(_, line) => {
+            let at = line_start(text, line);
             let end = line_end(text, at);
             &text[at..end]
         }

@@ -3,6 +3,7 @@ use borrow.Author.Needs.{needs}
 use mathlib.Core.Path.{sym, _∙_}
 use Prim.Native.Nat.{_-_}
 use Rattle.text.specs.EdgeLists.{lists}
+use Rattle.text.proofs.Lists.{enters-refused}
 use Rattle.text.proofs.Walks.{Walked, walked-none, walked-room, walked-on, walked-fault, walked-extra, walked-whole}
 use Rattle.text.proofs.walk.Statement.{statement}
 use Rattle.text.proofs.walk.Tie as tie
@@ -25,7 +26,8 @@ enter-requires c κs =
 returns : tie.Need-returns Inv-loop μ-loop
 returns c =
     let t = c .before .before .before .before in
-    walked-fault (t .before .loop .inv) (t .loop-test .taken) (sym (c .before .before .before .edge-in .ensures) ∙ c .before .line2 .given .1)
+    enters-refused
+    (walked-fault (t .before .loop .inv) (t .loop-test .taken) (sym (c .before .before .before .edge-in .ensures) ∙ c .before .line2 .given .1))
 
 loop-again : tie.Need-loop-again Inv-loop μ-loop
 loop-again c =
@@ -35,7 +37,7 @@ loop-again c =
     (c .enter .ensures)
 
 returns-2 : tie.Need-returns-2 Inv-loop μ-loop
-returns-2 c = walked-extra (c .before .before .loop .inv) (c .before .loop-test .left) (c .if1 .taken)
+returns-2 c = enters-refused (walked-extra (c .before .before .loop .inv) (c .before .loop-test .left) (c .if1 .taken))
 
 returns-3 : tie.Need-returns-3 Inv-loop μ-loop
 returns-3 c = walked-whole (c .before .before .loop .inv) (c .before .loop-test .left) (c .if1 .left)
