@@ -15,8 +15,7 @@ use Rattle.rule.specs.declared.Answer.the-variants.{Refused}
 use Rattle.rule.specs.Reasons.{numberOf, Check, Fail, questionChecks}
 use Rattle.rule.specs.Calls.{Question}
 use Rattle.text.specs.Due.{Said, nothing, to-a, to-b, to-bodies, to-edges, due}
-use Rattle.text.specs.Faults.{Faulty, Fault, FirstFault}
-use Rattle.text.specs.Faults.AtFault.{other, fails}
+use Rattle.text.specs.Faults.{AtFault, Faulty, Fault, FirstFault}
 
 -- ---- the number of a refusal
 
@@ -55,8 +54,8 @@ all-due (to-bodies a b n) value = (six-or-nine 6 (inl refl), tt)
 all-due (to-edges a b n m edges) value = (early 3 (omega arith), (early 4 (omega arith), tt))
 
 faulty-in-text : (said : Said) (rest : List ℕ) (reason : Reason) → Faulty said rest reason → InText (numberOf reason)
-faulty-in-text said rest reason (other none going) = six-or-nine 9 (inr refl)
-faulty-in-text said rest reason (fails value more next f) = fails-with InText (due said .checks value) (all-due said value) reason f
+faulty-in-text said rest reason (AtFault.other none going) = six-or-nine 9 (inr refl)
+faulty-in-text said rest reason (AtFault.fails value more next f) = fails-with InText (due said .checks value) (all-due said value) reason f
 
 pub five-never-in-text : (text : List ℕ) (f : Fault) → FirstFault text f → InText (numberOf (f .reason))
 five-never-in-text text f fault = faulty-in-text (fault .said) _ (f .reason) (fault .at-fault)

@@ -1,9 +1,8 @@
 // For the benchmark: builds the book of a text again and again. Standard input has a letter, four digits and a LF, and then a book text: after k
 // the text is read so many times, with the tables kept between offers; after o it is read once, and then so many times every edge of the book
-// goes through the public offer to a new one, which scans that first; after t the text is only judged and its lines are looked at. What is printed is a sum over the books, so that the work cannot be left out.
+// goes through the public offer to a new one, which scans that first; after t the text is only judged, so many times, and its edges are entered in lists. What is printed is a sum over the books, so that the work cannot be left out.
 ghost use Prim.Native.Nat.{_≤_, _<_};
 use rule::Book;
-use text::EdgeLine;
 use text::Judgement;
 
 fn digit(x: u8) -> usize
@@ -59,38 +58,21 @@ fn read(text: &[u8]) -> Book {
     r.book
 }
 
-// The place past the edge lines of a text, looked at one by one.
-fn past_edges(text: &[u8], first: usize, edges: u16) -> usize {
-    let mut at = first;
-    let mut i = 0;
-    while i < edges {
-        let line = text::edge_at(text, at);
-        if let EdgeLine::Joins {
-            one: _,
-            other: _,
-            colour: _,
-            next,
-        } = line {
-            at = next;
-        }
-        i += 1;
-    }
-    at
-}
-
-// What reading does with a text, all but the offers.
+// What reading does with a text, all but the offers: it is judged, and its edges are entered in lists.
 fn look(text: &[u8]) -> usize
     ensures { λ r. ⌜ r ≤ 2805 ⌝ }
 {
-    let found = text::judge(text);
+    let mut ones = [0u8; 512];
+    let mut others = [0u8; 512];
+    let mut colours = [0u8; 512];
+    let found = text::find(text, &mut ones, &mut others, &mut colours);
     match found {
         Judgement::Sheet {
             a: _,
             b: _,
             n: _,
-            edges,
-            first,
-        } => past_edges(text, first, edges) % 1000,
+            edges: _,
+        } => wide(ones[0]) * 10 + wide(others[200]),
         Judgement::Refused(_, _) => 0,
     }
 }

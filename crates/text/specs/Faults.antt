@@ -8,7 +8,7 @@ use mathlib.Core.List.{List}
 use Prim.Native.Nat.{ℕ}
 use Rattle.rule.specs.declared.Reason.{Reason}
 use Rattle.grammar.specs.Grammar as grammar
-pub use Rattle.grammar.specs.Grammar.{Fault}
+pub use Rattle.grammar.specs.Grammar.{Fault, AtFault}
 use Rattle.text.specs.Due.{Said, bookText}
 
 -- from what was said and the rest of a text, lines that are due and in range lead to what is then said and what then is left
