@@ -1,5 +1,6 @@
 pub mod Keys
 pub mod Answers
+pub mod Sections
 pub mod Reads
 pub mod Reports
 pub mod Steps
