@@ -31,8 +31,9 @@ use Rattle.theory.proofs.Laws.Circuits.{circuit-agree, circuit-longer}
 use Rattle.text.specs.Lines.{line}
 use Rattle.pages.specs.Keys.{key-kept, key-implied}
 use Rattle.pages.specs.Reads.{Offers, none, then, Reads}
-use Rattle.pages.specs.Reports.{freedomAfter, EdgeLine, edge}
+use Rattle.pages.specs.Reports.{freedomAfter, EdgeLine}
 use Rattle.pages.specs.Texts.{Report}
+use Rattle.pages.proofs.Sections.{line-first}
 use Rattle.step.specs.Runs.{Taken, Run}
 use Rattle.step.specs.Runs.Run.{opened}
 use Rattle.step.proofs.Runs.{Grew, run-grew}
@@ -192,4 +193,4 @@ module _ {text : List ℕ} {B : Book} (r : Reads text B) where
   unfolding designOf
   report-line-answered i h =
       let many = holds-count (reads-hold r) in
-      inl (B, r, edge (omega arith) (reads-reported .each i (omega arith)))
+      inl (B, r, line-first _ _ i (getD (answerLines (r .offers)) i []) (omega arith) (reads-reported .each i (omega arith)))

@@ -36,6 +36,10 @@ adds-part s at h w = record { writes = writes-then (writes-front s at h) w }
 pub adds-as : {u v s after : List ℕ} {at next : ℕ} → u ≡ v → Adds u s after at next → Adds v s after at next
 adds-as {s = s} {after} {at} {next} e a = subst (λ (l : List ℕ). Adds l s after at next) e a
 
+-- from the front on it is all that is written
+pub adds-writes : {u s after : List ℕ} {next : ℕ} → Adds u s after 0 next → Writes u s after next
+adds-writes a = a .writes
+
 -- ---- one writer after another
 
 pub writes-adds : {t u s before after : List ℕ} {at next : ℕ} → Writes t s before at → Adds u before after at next

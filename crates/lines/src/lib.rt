@@ -2,14 +2,17 @@
 // far it wrote. Inside, a line is made from its front on: the functions `add_..` write from a place on and answer the place past it.
 ghost use mathlib.Core.Path.{_≡_};
 ghost use mathlib.Core.List.{[], _∷_, _++_};
-ghost use Prim.Native.Nat.{_+_, _≤_, _<_};
+ghost use Prim.Native.Nat.{suc, _+_, _≤_, _<_};
 ghost use lib.ListN.{length, take};
 ghost use Rattle.rule.specs.Calls.{Filled};
 ghost use Rattle.text.specs.Lines.{LF, numeral, listed, line};
 ghost use Rattle.text.specs.Sheets.{edgeText};
 ghost use Rattle.text.specs.Puts.{Writes};
 ghost use Rattle.pages.specs.Keys.{key-verdict, wordOf};
+ghost use Rattle.pages.specs.Reads.{edgeOf};
+ghost use Rattle.pages.specs.Reports.{bookLine};
 ghost use Rattle.lines.specs.Adding.{Adds, item};
+use rule::Book;
 use rule::Verdict;
 use text::put;
 
@@ -147,22 +150,42 @@ pub fn edge_line(buffer: &mut [u8], one: usize, other: usize, colour: u8) -> usi
     pair_line(buffer, b"black=", one, other)
 }
 
-// ---- lines from a place on
+// ---- the text of a book
 
-// A line of a key and one number.
-pub fn add_number_line(buffer: &mut [u8], at: usize, key: &[u8], n: usize) -> usize
-    requires { ⌜ at + length (line (now key) (n ∷ [])) ≤ length (now buffer) ⌝ }
-    ensures { λ r. ⌜ Adds (line (now (key .entry)) (n ∷ [])) (now (buffer .entry)) (now (buffer .exit)) at r ⌝ }
+// The edge after e others, as it was given.
+fn given_line(book: Book, e: u16, buffer: &mut [u8]) -> usize
+    requires { ⌜ (e < book .count) × (book .count ≤ 512) ⌝ }
+    requires { ⌜ length (edgeText (edgeOf book (suc e))) ≤ length (now buffer) ⌝ }
+    ensures { λ r. ⌜ Writes (edgeText (edgeOf book (suc e))) (now (buffer .entry)) (now (buffer .exit)) r ⌝ }
 {
-    let more = put::number_line(&mut buffer[at..], key, n);
-    at + more
+    let at = e as usize;
+    let one = book.ones[at] as usize;
+    let other = book.others[at] as usize;
+    let colour = book.colours[at];
+    edge_line(buffer, one, other, colour)
 }
 
-// An edge.
-pub fn add_edge_line(buffer: &mut [u8], at: usize, one: usize, other: usize, colour: u8) -> usize
-    requires { ⌜ at + length (edgeText (record { one = one; other = other; colour = colour })) ≤ length (now buffer) ⌝ }
-    ensures { λ r. ⌜ Adds (edgeText (record { one = one; other = other; colour = colour })) (now (buffer .entry)) (now (buffer .exit)) at r ⌝ }
+// Line i of the text of a book, counted from 0: the four lines of the head, and then the edges in order.
+pub fn book_line(book: Book, i: u16, buffer: &mut [u8]) -> usize
+    requires { ⌜ (i < 4 + book .count) × (book .count ≤ 512) ⌝ }
+    requires { ⌜ length (bookLine book i) ≤ length (now buffer) ⌝ }
+    ensures { λ r. ⌜ Writes (bookLine book i) (now (buffer .entry)) (now (buffer .exit)) r ⌝ }
 {
-    let more = edge_line(&mut buffer[at..], one, other, colour);
+    match i {
+        0 => put::number_line(buffer, b"a=", book.a as usize),
+        1 => put::number_line(buffer, b"b=", book.b as usize),
+        2 => put::number_line(buffer, b"bodies=", book.n as usize),
+        3 => put::number_line(buffer, b"edges=", book.count as usize),
+        _ => given_line(book, i - 4, buffer),
+    }
+}
+
+// The same from a place on.
+pub fn add_book_line(buffer: &mut [u8], at: usize, book: Book, i: u16) -> usize
+    requires { ⌜ (i < 4 + book .count) × (book .count ≤ 512) ⌝ }
+    requires { ⌜ at + length (bookLine book i) ≤ length (now buffer) ⌝ }
+    ensures { λ r. ⌜ Adds (bookLine book i) (now (buffer .entry)) (now (buffer .exit)) at r ⌝ }
+{
+    let more = book_line(book, i, &mut buffer[at..]);
     at + more
 }

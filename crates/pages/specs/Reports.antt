@@ -1,6 +1,6 @@
--- The lines of a report and of a certificate: document 01, "The report, whole". Lines are counted from 0.
+-- The lines of a report and of a certificate: document 01, "The report, whole". Both come in sections (Sections.antt). Lines are counted from 0.
 --
--- In order: the line of an edge; the report; the certificate; the refused line.
+-- In order: the line of an edge; the report; the text of a book; the certificate; the refused line.
 -- Not here: the lines that a stepper writes (Steps.antt); the report and the certificate of a text (Texts.antt).
 --
 -- The circuit of an implied edge is taken among some kept edges, `among e`: at its offer these are the edges kept before it. (In a book that
@@ -8,10 +8,10 @@
 use mathlib.Core.Path.{_≡_}
 use mathlib.Core.Logic.{_⊎_}
 use mathlib.Core.List.{List, [], _∷_, _++_}
-use Prim.Native.Nat.{ℕ, suc, _+_, _*_, _-_, _≤_, _<_}
+use Prim.Native.Nat.{ℕ, zero, suc, _+_, _*_, _-_, _≤_}
 use Rattle.rule.specs.declared.Book.{Book}
 use Rattle.rule.specs.declared.Reason.{Reason}
-use Rattle.rule.specs.Sets.{Is, Set, In, count}
+use Rattle.rule.specs.Sets.{Is, Set, count}
 use Rattle.rule.specs.Legal.{Design, k, Circuit}
 use Rattle.rule.specs.Figures.{freedom, dropped, verdict, Groups}
 use Rattle.rule.specs.Books.{designOf, forestOf}
@@ -19,6 +19,7 @@ use Rattle.rule.specs.Reasons.{numberOf}
 use Rattle.text.specs.Lines.{LF, line, key-a, key-b, key-bodies, key-edges}
 use Rattle.text.specs.Sheets.{edgeText}
 use Rattle.pages.specs.Keys.{key-kept, key-implied, key-free, key-dropped, key-verdict, key-groups, key-forest, key-refused, wordOf}
+use Rattle.pages.specs.Sections.{Section, Exactly, inOrder, forEach, LineIn}
 use Rattle.pages.specs.Reads.{edgeOf}
 
 -- ---- the line of an edge
@@ -47,16 +48,35 @@ pub record GroupsLine (d : Design) (kept : Set) (bytes : List ℕ) : Type 0 wher
   pub is-list : Groups d kept list
   pub is-line : bytes ≡ line key-groups list
 
--- line i of a report: the edges in order, then free=, dropped=, verdict= and groups=
-pub data ReportLine (d : Design) (kept : Set) (among : ℕ → Set) (i : ℕ) (bytes : List ℕ) : Type 0 where
-  edge : i < d .m → EdgeLine d kept among (suc i) bytes → ReportLine d kept among i bytes
-  free : i ≡ d .m → bytes ≡ line key-free (freedom d kept ∷ []) → ReportLine d kept among i bytes
-  drops : i ≡ d .m + 1 → bytes ≡ line key-dropped (dropped d kept ∷ []) → ReportLine d kept among i bytes
-  judged : i ≡ d .m + 2 → bytes ≡ key-verdict ++ (wordOf (verdict d kept) ++ LF ∷ []) → ReportLine d kept among i bytes
-  grouped : i ≡ d .m + 3 → GroupsLine d kept bytes → ReportLine d kept among i bytes
+-- the figures of the whole: free=, dropped=, verdict= and groups=
+abbrev pub figures : Design → Set → List (List ℕ → Type 0)
+figures d kept =
+    Exactly (line key-free (freedom d kept ∷ []))
+    ∷ Exactly (line key-dropped (dropped d kept ∷ []))
+    ∷ Exactly (key-verdict ++ (wordOf (verdict d kept) ++ LF ∷ []))
+    ∷ GroupsLine d kept
+    ∷ []
 
-abbrev pub reportLength : Book → ℕ
-reportLength B = B .count + 4
+-- the edges in order, then the figures
+abbrev pub reportLines : Design → Set → (among : ℕ → Set) → List Section
+reportLines d kept among = forEach (d .m) (EdgeLine d kept among) ∷ inOrder (figures d kept) ∷ []
+
+-- line i of a report
+abbrev pub ReportLine : Design → Set → (among : ℕ → Set) → ℕ → List ℕ → Type 0
+ReportLine d kept among = LineIn (reportLines d kept among)
+
+-- ---- the text of a book
+
+-- line i of it: the four lines of the head, and then the edges in order
+unfoldable pub bookLine : Book → ℕ → List ℕ
+bookLine B zero = line key-a (B .a ∷ [])
+bookLine B (suc zero) = line key-b (B .b ∷ [])
+bookLine B (suc (suc zero)) = line key-bodies (B .n ∷ [])
+bookLine B (suc (suc (suc zero))) = line key-edges (B .count ∷ [])
+bookLine B (suc (suc (suc (suc i)))) = edgeText (edgeOf B (suc i))
+
+abbrev pub bookText : Book → Section
+bookText B = record { number = 4 + B .count; Says = λ i. Exactly (bookLine B i) }
 
 -- ---- the certificate
 
@@ -66,17 +86,13 @@ ForestLine B among e bytes =
     (1 ≤ forestOf B e × (bytes ≡ line key-forest (forestOf B e ∷ [])))
     ⊎ ((forestOf B e ≡ 0) × ImpliedLine (designOf B) (among e) e bytes)
 
--- line i of a certificate: the book text, and then a line for each edge in order
-pub data CertificateLine (B : Book) (among : ℕ → Set) (i : ℕ) (bytes : List ℕ) : Type 0 where
-  profile-a : i ≡ 0 → bytes ≡ line key-a (B .a ∷ []) → CertificateLine B among i bytes
-  profile-b : i ≡ 1 → bytes ≡ line key-b (B .b ∷ []) → CertificateLine B among i bytes
-  bodies : i ≡ 2 → bytes ≡ line key-bodies (B .n ∷ []) → CertificateLine B among i bytes
-  edges : i ≡ 3 → bytes ≡ line key-edges (B .count ∷ []) → CertificateLine B among i bytes
-  edge : (e : ℕ) → In (B .count) e → i ≡ e + 3 → bytes ≡ edgeText (edgeOf B e) → CertificateLine B among i bytes
-  forest : (e : ℕ) → In (B .count) e → i ≡ B .count + e + 3 → ForestLine B among e bytes → CertificateLine B among i bytes
+-- the text of the book, and then a line for each edge in order
+abbrev pub certificateLines : Book → (among : ℕ → Set) → List Section
+certificateLines B among = bookText B ∷ forEach (B .count) (ForestLine B among) ∷ []
 
-abbrev pub certificateLength : Book → ℕ
-certificateLength B = 4 + B .count + B .count
+-- line i of a certificate
+abbrev pub CertificateLine : Book → (among : ℕ → Set) → ℕ → List ℕ → Type 0
+CertificateLine B among = LineIn (certificateLines B among)
 
 -- ---- a refused text
 

@@ -14,7 +14,8 @@ use Rattle.pages.specs.declared.Received.{Received}
 use Rattle.pages.specs.declared.State.{State}
 use Rattle.pages.specs.declared.Line.{Line}
 use Rattle.pages.specs.Answers.{LineSays}
-use Rattle.pages.specs.Reports.{ReportLine, CertificateLine, reportLength, certificateLength, refusedLine}
+use Rattle.pages.specs.Sections.{Section, linesIn, LineIn}
+use Rattle.pages.specs.Reports.{reportLines, certificateLines, refusedLine}
 
 -- ---- forms
 
@@ -23,13 +24,17 @@ pub record Form : Type 1 where
   pub number : Book → ℕ
   pub Says : Book → ℕ → List ℕ → Type 0
 
+-- what comes in sections
+abbrev pub inSections : (Book → List Section) → Form
+inSections ss = record { number = λ B. linesIn (ss B); Says = λ B i bytes. LineIn (ss B) i bytes }
+
 -- the report of a book, each circuit among all its kept edges
 abbrev pub report : Form
-report = record { number = reportLength; Says = λ B i bytes. ReportLine (designOf B) (keptOf B) (λ e. keptOf B) i bytes }
+report = inSections (λ B. reportLines (designOf B) (keptOf B) (λ e. keptOf B))
 
 -- the certificate of a book
 abbrev pub certificate : Form
-certificate = record { number = certificateLength; Says = λ B i bytes. CertificateLine B (λ e. keptOf B) i bytes }
+certificate = inSections (λ B. certificateLines B (λ e. keptOf B))
 
 -- ---- the lines of a state
 

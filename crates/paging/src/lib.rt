@@ -16,7 +16,8 @@ ghost use Rattle.rule.specs.Figures.{freedom, dropped, verdict};
 ghost use Rattle.text.specs.Lines.{LF, line};
 ghost use Rattle.text.specs.Puts.{Writes};
 ghost use Rattle.pages.specs.Keys.{key-kept, key-free, key-dropped, key-verdict, wordOf};
-ghost use Rattle.pages.specs.Reports.{freedomAfter, EdgeLine, GroupsLine};
+ghost use Rattle.pages.specs.Sections.{Nth};
+ghost use Rattle.pages.specs.Reports.{freedomAfter, EdgeLine, GroupsLine, figures};
 ghost use Rattle.pages.specs.Steps.{Puts, Next, Page, report, certificate, lineRoom, written};
 ghost use Rattle.paging.specs.Kinds.{formOf, lineFrom};
 ghost use Rattle.paging.specs.Lent.{Known, Tally, FullRun};
@@ -138,6 +139,19 @@ fn groups_line(book: Book, buffer: &mut [u8]) -> usize
     lines::list_line(buffer, b"groups=", &leaders, n)
 }
 
+// Line j of the figures of the whole book, counted from 0.
+fn figure_line(book: Book, j: u16, buffer: &mut [u8]) -> usize
+    requires { ⌜ Sound book × ((j < length (figures (designOf book) (keptOf book))) × (lineRoom ≤ length (now buffer))) ⌝ }
+    ensures { λ r. ⌜ Puts (Nth (figures (designOf book) (keptOf book)) j) (now (buffer .entry)) (now (buffer .exit)) r ⌝ }
+{
+    match j {
+        0 => free_line(book, buffer),
+        1 => dropped_line(book, buffer),
+        2 => judged_line(book, buffer),
+        _ => groups_line(book, buffer),
+    }
+}
+
 // Line i of the report, counted from 0: the edges, then the figures of the whole book.
 fn report_line(
     book: Book,
@@ -156,17 +170,7 @@ fn report_line(
     if i < count {
         return report_edge(book, i, kept, root, way, edge, buffer);
     }
-    let figure = i - count;
-    if figure == 0 {
-        return free_line(book, buffer);
-    }
-    if figure == 1 {
-        return dropped_line(book, buffer);
-    }
-    if figure == 2 {
-        return judged_line(book, buffer);
-    }
-    groups_line(book, buffer)
+    figure_line(book, i - count, buffer)
 }
 
 // ---- a page

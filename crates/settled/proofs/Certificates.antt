@@ -29,6 +29,7 @@ use Rattle.pages.specs.Reads.{Receives}
 use Rattle.pages.specs.Reports.{ForestLine}
 use Rattle.pages.specs.Steps.{certificate, linesOf}
 use Rattle.pages.specs.Texts.{CertificateOf, Certificate, ForestShown}
+use Rattle.pages.proofs.Numbers.{certificate-number}
 use Rattle.settled.proofs.Reading.{reads-grew}
 use Rattle.settled.proofs.Lines.{certificate-line-forest}
 
@@ -48,11 +49,11 @@ module _ {text : List ℕ} {lines : List (List ℕ)} (c : Certificate text lines
   grew = reads-grew (subst (Receives text B) fine (c .is-received))
 
   so-many : length lines ≡ 4 + B .count + B .count
-  so-many = c .so-many ∙ ap (linesOf certificate B) fine
+  so-many = c .so-many ∙ ap (linesOf certificate B) fine ∙ certificate-number B
 
   forest-line : (e : ℕ) → In (B .count) e → ForestLine B (below (keptOf B)) e (getD lines (B .count + e + 3) [])
   forest-line e h =
-      certificate-line-forest B (below (keptOf B)) e h
+      certificate-line-forest B (below (keptOf B)) e h (getD lines (B .count + e + 3) [])
       (subst (λ (r : Received). CertificateOf B r (B .count + e + 3) (getD lines (B .count + e + 3) [])) fine
       (c .each (B .count + e + 3) (omega (arith, so-many, h .high))))
 

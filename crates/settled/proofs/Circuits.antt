@@ -1,8 +1,9 @@
 -- In a book that was grown from empty each line of a report and of a certificate is the same, whether the circuits are taken among the
 -- edges kept before each edge or among all the kept edges.
 --
--- The circuits are the same (crate theory, theorem 9), so the list of a circuit is. Every other part of a line names no circuit.
+-- The circuits are the same (crate theory, theorem 9), so the list of a circuit is. Every other section names no circuit.
 -- Assumes nothing.
+use mathlib.Core.Path.{refl}
 use mathlib.Core.Logic.{inl, inr, _↔_, Iff·symm, Iff·trans}
 use mathlib.Core.List.{List}
 use Prim.Native.Nat.{ℕ, suc, _<_}
@@ -14,7 +15,8 @@ use Rattle.rule.specs.Books.{designOf, forestOf, keptOf, Sound, GrownBook}
 use Rattle.theory.proofs.Legal.Kept.{kept-has}
 use Rattle.theory.proofs.Legal.Sound.{sound-ends}
 use Rattle.theory.proofs.Theorems.{circuit-settled}
-use Rattle.pages.specs.Reports.{ImpliedLine, EdgeLine, ReportLine, edge, free, drops, judged, grouped, ForestLine, CertificateLine, profile-a, profile-b, bodies, edges, forest}
+use Rattle.pages.specs.Reports.{ImpliedLine, EdgeLine, reportLines, ReportLine, ForestLine, certificateLines, CertificateLine}
+use Rattle.pages.proofs.Sections.{turns-same, line-turned}
 
 -- among the one sets and among the others each implied edge has the same circuit
 abbrev pub SameCircuits : Design → Set → (among other : ℕ → Set) → Type 0
@@ -41,12 +43,11 @@ module _ (d : Design) (kept : Set) (among other : ℕ → Set) (same : SameCircu
   edge-as e h (inl l) = inl l
   edge-as e h (inr l) = inr (l .0, implied-as e h (l .0) (l .1))
 
-  report-as : (i : ℕ) → ReportLine d kept among i bytes → ReportLine d kept other i bytes
-  report-as i (edge h l) = edge h (edge-as (suc i) (omega arith) l)
-  report-as i (free h l) = free h l
-  report-as i (drops h l) = drops h l
-  report-as i (judged h l) = judged h l
-  report-as i (grouped h l) = grouped h l
+report-as : (d : Design) (kept : Set) (among other : ℕ → Set) → SameCircuits d kept among other → (i : ℕ) (bytes : List ℕ)
+    → ReportLine d kept among i bytes → ReportLine d kept other i bytes
+report-as d kept among other same =
+    line-turned (reportLines d kept among) (reportLines d kept other)
+    (record { as-many = refl; turn = λ i bytes h l. edge-as d kept among other same (suc i) (omega arith) l }, (turns-same _, tt))
 
 module _ (B : Book) (among other : ℕ → Set) (same : SameCircuits (designOf B) (keptOf B) among other) {bytes : List ℕ} where
   forest-as : (e : ℕ) → In (B .count) e → ForestLine B among e bytes → ForestLine B other e bytes
@@ -56,13 +57,11 @@ module _ (B : Book) (among other : ℕ → Set) (same : SameCircuits (designOf B
       let implied : ¬ (Is (keptOf B e)) = λ k. absurd (omega (arith, l .0, kept-has (designOf B) (forestOf B) e k)) in
       inr (l .0, implied-as (designOf B) (keptOf B) among other same e h implied (l .1))
 
-  certificate-as : (i : ℕ) → CertificateLine B among i bytes → CertificateLine B other i bytes
-  certificate-as i (profile-a h l) = profile-a h l
-  certificate-as i (profile-b h l) = profile-b h l
-  certificate-as i (bodies h l) = bodies h l
-  certificate-as i (edges h l) = edges h l
-  certificate-as i (edge e r h l) = edge e r h l
-  certificate-as i (forest e r h l) = forest e r h (forest-as e r l)
+certificate-as : (B : Book) (among other : ℕ → Set) → SameCircuits (designOf B) (keptOf B) among other → (i : ℕ) (bytes : List ℕ)
+    → CertificateLine B among i bytes → CertificateLine B other i bytes
+certificate-as B among other same =
+    line-turned (certificateLines B among) (certificateLines B other)
+    (turns-same _, (record { as-many = refl; turn = λ i bytes h l. forest-as B among other same (suc i) (omega arith) l }, tt))
 
 -- ---- in a grown book
 
@@ -83,7 +82,7 @@ module _ (B : Book) (sound : Sound B) (grown : GrownBook B) where
     )
 
     pub report-settled : ReportLine (designOf B) (keptOf B) (λ e. keptOf B) i bytes ↔ ReportLine (designOf B) (keptOf B) (below (keptOf B)) i bytes
-    report-settled = (report-as (designOf B) (keptOf B) _ _ settles-back i, report-as (designOf B) (keptOf B) _ _ settles i)
+    report-settled = (report-as (designOf B) (keptOf B) _ _ settles-back i bytes, report-as (designOf B) (keptOf B) _ _ settles i bytes)
 
     pub certificate-settled : CertificateLine B (λ e. keptOf B) i bytes ↔ CertificateLine B (below (keptOf B)) i bytes
-    certificate-settled = (certificate-as B _ _ settles-back i, certificate-as B _ _ settles i)
+    certificate-settled = (certificate-as B _ _ settles-back i bytes, certificate-as B _ _ settles i bytes)

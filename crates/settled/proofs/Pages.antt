@@ -17,6 +17,7 @@ use Rattle.pages.specs.declared.Received.{Received}
 use Rattle.pages.specs.declared.State.{State}
 use Rattle.pages.specs.declared.Line.{Line}
 use Rattle.pages.specs.Steps.{Form, report, certificate, linesOf, LineOf, written, lineRoom, Readable, stepChecks, Lines, none, then, PageOf, Page}
+use Rattle.pages.proofs.Numbers.{report-number, certificate-number}
 use Rattle.settled.proofs.Spelling.{writes-front, Spelled, spelled-none, spelled-more}
 use Rattle.settled.proofs.Calls.{next-over, over-all, all-there}
 
@@ -126,9 +127,9 @@ module _ (form : Form) (first : State) (start : first .line ≡ 0) where
 
 module _ (B : Book) where
   pub report-few : (r : Received) → Readable B r → linesOf report B r ≤ 516
-  report-few Received.Fine sound = omega (arith, sound-head B sound .edges)
+  report-few Received.Fine sound = omega (arith, report-number B, sound-head B sound .edges)
   report-few (Received.Refused reason number) tt = omega arith
 
   pub certificate-few : (r : Received) → Readable B r → linesOf certificate B r ≤ 1028
-  certificate-few Received.Fine sound = omega (arith, sound-head B sound .edges)
+  certificate-few Received.Fine sound = omega (arith, certificate-number B, sound-head B sound .edges)
   certificate-few (Received.Refused reason number) tt = omega arith

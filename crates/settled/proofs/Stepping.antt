@@ -21,7 +21,8 @@ use Rattle.pages.specs.declared.Received.{Received}
 use Rattle.pages.specs.declared.State.{State}
 use Rattle.pages.specs.declared.Line.{Line}
 use Rattle.pages.specs.Steps.{Form, report, certificate, linesOf, LineOf, written, lineRoom, stepChecks, NextLine, Next, Lines, none, then, PageOf, Page}
-use Rattle.settled.proofs.Lines.{Determined, report-line-determined, certificate-line-determined}
+use Rattle.pages.proofs.Sections.{Determined}
+use Rattle.settled.proofs.Lines.{report-line-determined, certificate-line-determined}
 
 -- ---- forms whose lines are determined
 

@@ -18,20 +18,21 @@ use Rattle.rule.specs.Books.{designOf, keptOf}
 use Rattle.text.specs.Faults.{RefusedAt}
 use Rattle.pages.specs.declared.Received.{Received}
 use Rattle.pages.specs.Reads.{Reads, Receives}
-use Rattle.pages.specs.Reports.{ReportLine, CertificateLine, refusedLine}
+use Rattle.pages.specs.Reports.{ReportLine, refusedLine}
 use Rattle.pages.specs.Steps.{Form, report, certificate, linesOf, LineOf}
 use Rattle.pages.specs.Texts.{OnlyRefused, Report, CertificateOf}
+use Rattle.pages.proofs.Sections.{Determined}
 use Rattle.settled.proofs.Reading.{reads-grew}
 use Rattle.settled.proofs.Same.{reads-same, same-design, same-kept, reads-not-refused, refused-determined}
 use Rattle.settled.proofs.Circuits.{report-settled, certificate-settled}
-use Rattle.settled.proofs.Lines.{Determined, report-line-determined, report-line-within, certificate-line-within}
+use Rattle.settled.proofs.Lines.{report-line-determined, report-line-within, certificate-line-within}
 
 -- ---- two books of one text
 
 -- each report line of the one is the other's
-report-same : {text : List ℕ} {B C : Book} {i : ℕ} {bytes : List ℕ} → Reads text B → Reads text C
+report-same : {text : List ℕ} {B C : Book} (i : ℕ) (bytes : List ℕ) → Reads text B → Reads text C
     → ReportLine (designOf B) (keptOf B) (below (keptOf B)) i bytes → ReportLine (designOf C) (keptOf C) (below (keptOf C)) i bytes
-report-same {B = B} {C} {i} {bytes} p q l =
+report-same {B = B} {C} i bytes p q l =
     let same = reads-same p q in
     subst₂ (λ (d : Design) (kept : Set). ReportLine d kept (below kept) i bytes) (same-design B C same) (same-kept B C same) l
 
@@ -49,7 +50,7 @@ only-refused-determined text i x y p q = p .4 ∙ refused-same text (p .2) (q .2
 pub report-determined : (text : List ℕ) (i : ℕ) → Determined (Report text i)
 report-determined text i x y (inl p) (inl q) =
     let C = q .0 in
-    report-line-determined (designOf C) (keptOf C) (below (keptOf C)) i x y (report-same (p .1) (q .1) (p .2)) (q .2)
+    report-line-determined (designOf C) (keptOf C) (below (keptOf C)) i x y (report-same i x (p .1) (q .1) (p .2)) (q .2)
 report-determined text i x y (inl p) (inr q) = reads-not-refused (p .1) (q .2)
 report-determined text i x y (inr p) (inl q) = reads-not-refused (q .1) (p .2)
 report-determined text i x y (inr p) (inr q) = only-refused-determined text i x y p q
@@ -62,7 +63,7 @@ module _ (text : List ℕ) (B : Book) (i : ℕ) (bytes : List ℕ) where
   from-report : (r : Received) → Receives text B r → Report text i bytes → LineOf report B r i bytes
   from-report Received.Fine p (inl q) =
       let g = reads-grew p in
-      report-settled B (g .sound) (g .grown) i bytes .1 (report-same (q .1) p (q .2))
+      report-settled B (g .sound) (g .grown) i bytes .1 (report-same i bytes (q .1) p (q .2))
   from-report Received.Fine p (inr q) = reads-not-refused p (q .2)
   from-report (Received.Refused reason number) p (inl q) = reads-not-refused (q .1) (p .0)
   from-report (Received.Refused reason number) p (inr q) = q .4 ∙ refused-same text (q .2) (p .0)
@@ -82,12 +83,12 @@ module _ (text : List ℕ) (B : Book) (i : ℕ) (bytes : List ℕ) where
   -- ---- how many lines there are
 
   pub report-within : (r : Received) → Receives text B r → Report text i bytes → i < linesOf report B r
-  unfolding designOf
-  report-within Received.Fine p (inl q) = report-line-within (designOf B) (keptOf B) (below (keptOf B)) (report-same (q .1) p (q .2))
+  report-within Received.Fine p (inl q) =
+      report-line-within (designOf B) (keptOf B) (below (keptOf B)) (λ e. keptOf B) i bytes (report-same i bytes (q .1) p (q .2))
   report-within Received.Fine p (inr q) = reads-not-refused p (q .2)
   report-within (Received.Refused reason line) p (inl q) = reads-not-refused (q .1) (p .0)
   report-within (Received.Refused reason line) p (inr q) = omega (arith, q .3)
 
   pub certificate-within : (r : Received) → CertificateOf B r i bytes → i < linesOf certificate B r
-  certificate-within Received.Fine l = certificate-line-within B (below (keptOf B)) l
+  certificate-within Received.Fine l = certificate-line-within B (below (keptOf B)) (λ e. keptOf B) i bytes l
   certificate-within (Received.Refused reason line) l = omega (arith, l .0)

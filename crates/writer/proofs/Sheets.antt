@@ -1,22 +1,22 @@
--- The sheet of a sound book: its edges as a list, that it is in range, and that its text fits into the room for one.
+-- The sheet of a sound book: its edges as a list, that it is in range, that its text is the lines of the book one behind the other, and that the text
+-- fits into the room for one.
 --
 -- The rule of each place of a sound book says what the sheet's range asks, edge by edge. By the size theorem of crate text its text has
 -- then at most 6,172 bytes.
 -- Assumes nothing.
-use mathlib.Core.Path.{_≡_, refl, ap, _∙_}
-use mathlib.Core.List.{List, [], _∷_, _++_, append-nil}
-use Prim.Native.Nat.{ℕ, zero, suc, _≤_}
+use mathlib.Core.Path.{_≡_, refl, sym, ap, _∙_}
+use mathlib.Core.List.{List, [], _∷_, _++_, append-assoc, append-nil}
+use Prim.Native.Nat.{ℕ, zero, suc, _+_, _≤_}
 use native.Mathlib.Omega.{arith}
-use lib.ListN.{length, getD, length-append}
+use lib.ListN.{length, length-append}
 use Rattle.rule.specs.declared.Book.{Book}
-use Rattle.rule.specs.Sets.{at}
-use Rattle.rule.specs.Books.{Edge, EdgeRule, Obeys, Sound}
+use Rattle.rule.specs.Books.{EdgeRule, Obeys, Sound}
 use Rattle.theory.proofs.Legal.Sound.{sound-head}
 use Rattle.text.specs.Sheets.{EdgeRange, EdgesRange, SheetRange, edgeText, edgesText, headText, textOf, textRoom}
 use Rattle.text.proofs.SheetRuns.{edges-text-append}
 use Rattle.text.proofs.Sizes.{sheet-size}
 use Rattle.pages.specs.Reads.{edgeOf, edgesOf, sheetOf}
-use Rattle.lines.proofs.Adding.{fits-front}
+use Rattle.pages.specs.Reports.{bookLine}
 use Rattle.lines.proofs.Rounds.{Pieces}
 
 -- ---- the edges as a list
@@ -32,17 +32,6 @@ unfolding edgesOf edgesText
 edges-text-more B m =
     edges-text-append (edgesOf B m) (edgeOf B (suc m) ∷ [])
     ∙ ap (λ (s : List ℕ). edgesText (edgesOf B m) ++ s) (append-nil (edgeText (edgeOf B (suc m))))
-
--- the lines of the edges, one a round
-pub edges-pieces : (B : Book) (m : ℕ) → Pieces (λ e. edgesText (edgesOf B e)) (λ e. edgeText (edgeOf B (suc e))) m
-unfolding edgesOf edgesText
-edges-pieces B m = record { none = refl; step = λ e h. edges-text-more B e }
-
--- an edge as the arrays hold it
-pub edge-held : (B : Book) (e u v : ℕ) → u ≡ getD (B .ones) e 0 → v ≡ getD (B .others) e 0
-    → edgeText (record { one = u; other = v; colour = getD (B .colours) e 0 }) ≡ edgeText (edgeOf B (suc e))
-unfolding edgeOf at
-edge-held B e u v p q = λ i. edgeText (record { one = p i; other = q i; colour = getD (B .colours) e 0 })
 
 -- ---- in range
 
@@ -72,21 +61,42 @@ sound-sheet-range B sound =
       edges = edges-range B sound (B .count) (omega arith);
     }
 
--- ---- room
+-- ---- the lines
 
--- the text of a book: its head, and the lines of its edges
-pub text-parts : (B : Book) → textOf (sheetOf B) ≡ headText (B .a) (B .b) (B .n) (B .count) ++ edgesText (edgesOf B (B .count))
+-- the first lines of the text of a book, one behind the other
+unfoldable pub firstLines : Book → ℕ → List ℕ
+firstLines B zero = []
+firstLines B (suc i) = firstLines B i ++ bookLine B i
+
+-- one a round
+pub lines-pieces : (B : Book) (m : ℕ) → Pieces (firstLines B) (bookLine B) m
+unfolding firstLines
+lines-pieces B m = record { none = refl; step = λ i h. refl }
+
+-- the head and the first m edges
+lines-parts : (B : Book) (m : ℕ) → firstLines B (suc (suc (suc (suc m)))) ≡ headText (B .a) (B .b) (B .n) (B .count) ++ edgesText (edgesOf B m)
+unfolding firstLines bookLine headText edgesOf edgesText
+lines-parts B zero = simp (append-assoc, append-nil)
+lines-parts B (suc m) =
+    let head = headText (B .a) (B .b) (B .n) (B .count) in
+    ap (λ (s : List ℕ). s ++ edgeText (edgeOf B (suc m))) (lines-parts B m)
+    ∙ append-assoc head (edgesText (edgesOf B m)) (edgeText (edgeOf B (suc m)))
+    ∙ ap (λ (s : List ℕ). head ++ s) (sym (edges-text-more B m))
+
+-- The text of a book is its lines.
+pub text-lines : (B : Book) → firstLines B (4 + B .count) ≡ textOf (sheetOf B)
 unfolding textOf sheetOf
-text-parts B =
-    ap (λ (m : ℕ). headText (B .a) (B .b) (B .n) m ++ edgesText (edgesOf B (B .count))) (edges-number B (B .count))
+text-lines B =
+    let same : 4 + B .count ≡ suc (suc (suc (suc (B .count)))) = omega arith in
+    ap (firstLines B) same
+    ∙ lines-parts B (B .count)
+    ∙ ap (λ (m : ℕ). headText (B .a) (B .b) (B .n) m ++ edgesText (edgesOf B (B .count))) (sym (edges-number B (B .count)))
+
+-- ---- room
 
 -- No text of a sound book is longer than the room for one.
 pub sound-text-size : (B : Book) → Sound B → length (textOf (sheetOf B)) ≤ textRoom
 sound-text-size B sound = sheet-size (sheetOf B) (sound-sheet-range B sound)
 
-module _ (B : Book) (sound : Sound B) (buffer : List ℕ) (room : textRoom ≤ length buffer) where
-  pub text-room : length (headText (B .a) (B .b) (B .n) (B .count) ++ edgesText (edgesOf B (B .count))) ≤ length buffer
-  text-room = omega (arith, ap length (text-parts B), sound-text-size B sound)
-
-  pub head-room : length (headText (B .a) (B .b) (B .n) (B .count)) ≤ length buffer
-  head-room = fits-front (headText (B .a) (B .b) (B .n) (B .count)) (edgesText (edgesOf B (B .count))) buffer text-room
+pub lines-room : (B : Book) → Sound B → (places : ℕ) → textRoom ≤ places → length (firstLines B (4 + B .count)) ≤ places
+lines-room B sound places room = omega (arith, ap length (text-lines B), sound-text-size B sound)

@@ -1,39 +1,76 @@
--- `writer::text_of`: the head, and then the edges. The text of a sound book fits (Sheets.antt).
+-- `writer::text_of`: its rounds add the lines of the text one by one (Rounds.antt of crate lines). The text of a sound book fits (Sheets.antt).
 use borrow.Author.Needs.{needs}
-use mathlib.Core.Path.{sym}
+use native.Mathlib.Omega.{arith}
+use Prim.Native.Nat.{_+_, _-_}
+use mathlib.Core.Path.{refl}
 use denote.Ref.{now}
-use Rattle.text.specs.Sheets.{edgesText}
+use lib.ListN.{length}
 use Rattle.text.proofs.Overwrites.{writes-as}
 use Rattle.theory.proofs.Legal.Sound.{sound-head}
-use Rattle.pages.specs.Reads.{edgesOf}
-use Rattle.lines.proofs.Adding.{writes-adds, writes-left}
-use Rattle.writer.proofs.Sheets.{text-parts, head-room, text-room}
+use Rattle.lines.proofs.Adding.{adds-writes}
+use Rattle.lines.proofs.Rounds.{Rounds, rounds-none, rounds-room, rounds-more, rounds-all, rounds-length}
+use Rattle.writer.proofs.Sheets.{firstLines, lines-pieces, text-lines, lines-room}
 use Rattle.writer.proofs.text_of.Statement.{statement}
 use Rattle.writer.proofs.text_of.Tie as tie
 
-head-requires : tie.Need-head-requires
-head-requires c κs =
-    let a = c .before .before .before .before .before .before in
-    head-room (a .args .book) (a .pre .0) (now (a .args .buffer)) (a .pre .1)
+abbrev Inv-loop : tie.InvT-loop
+Inv-loop book buffer₀ number end₀ i₀ buffer end i = Rounds (firstLines book) (4 + book .count) buffer₀ buffer 0 end i
 
-edges-requires : tie.Need-edges-requires
-edges-requires c κs =
-    let d = c .before .before .before in
-    let a = d .before .before .before .before .before .before .before in
-    let book = a .args .book in (
-      sound-head book (a .pre .0) .edges,
-      writes-left (edgesText (edgesOf book (book .count))) (d .head .ensures) (text-room book (a .pre .0) (now (a .args .buffer)) (a .pre .1)),
+abbrev μ-loop : tie.MeasureT-loop
+μ-loop book buffer₀ number end₀ i₀ buffer end i = number - i
+
+add-number : tie.Need-add-number Inv-loop μ-loop
+add-number c = let a = c .before .before in let few = sound-head (a .args .book) (a .pre .0) .edges in search (needs, few)
+
+loop-holds : tie.Need-loop-holds Inv-loop μ-loop
+loop-holds c = let a = c .before .before in rounds-none (lines-pieces (a .args .book) (4 + a .args .book .count)) (omega arith)
+
+add-book-line-requires : tie.Need-add-book-line-requires Inv-loop μ-loop
+add-book-line-requires c κs =
+    let t = c .before in
+    let l = t .before in
+    let a = l .before .before .before in
+    let book = a .args .book in
+    let room = lines-room book (a .pre .0) (length (now (a .args .buffer))) (a .pre .1) in (
+      (omega (arith, t .loop-test .taken), sound-head book (a .pre .0) .edges),
+      rounds-room (lines-pieces book (4 + book .count)) (l .loop .inv) (omega (arith, room)) (t .loop-test .taken) _ refl,
     )
 
-returns : tie.Need-returns
+add-i : tie.Need-add-i Inv-loop μ-loop
+add-i c =
+    let a = c .before .before .before .before .before .before .before .before in
+    let few = sound-head (a .args .book) (a .pre .0) .edges in
+    search (needs, few)
+
+loop-again : tie.Need-loop-again Inv-loop μ-loop
+loop-again c =
+    let d = c .before .before in
+    let t = d .before .before in
+    let l = t .before in
+    let a = l .before .before .before in
+    let book = a .args .book in
+    let room = lines-room book (a .pre .0) (length (now (a .args .buffer))) (a .pre .1) in
+    rounds-more (lines-pieces book (4 + book .count)) (l .loop .inv) (omega (arith, room)) (t .loop-test .taken) _ refl (d .add-book-line .ensures)
+
+same-length : tie.Need-same-length Inv-loop μ-loop
+same-length c =
+    let l = c .before in
+    let a = l .before .before .before in
+    let book = a .args .book in
+    let room = lines-room book (a .pre .0) (length (now (a .args .buffer))) (a .pre .1) in
+    rounds-length (lines-pieces book (4 + book .count)) (l .loop .inv) (omega (arith, room))
+
+returns : tie.Need-returns Inv-loop μ-loop
 returns c =
-    let e = c .before .before in
-    let d = e .before .before .before .before in
-    let a = d .before .before .before .before .before .before .before in
-    writes-as (sym (text-parts (a .args .book))) (writes-adds (d .head .ensures) (e .edges .ensures))
+    let l = c .before in
+    let a = l .before .before .before in
+    let book = a .args .book in
+    let room = lines-room book (a .pre .0) (length (now (a .args .buffer))) (a .pre .1) in
+    writes-as (text-lines book)
+    (adds-writes (rounds-all (lines-pieces book (4 + book .count)) (l .loop .inv) (omega (arith, room)) (c .loop-test .left)))
 
 pub text-of-spec : {M : Type 1} → statement M
 text-of-spec =
     tie.close
     (tie.spec
-    (λ c. search needs) (λ c. search needs) (λ c. search needs) (λ c. search needs) head-requires edges-requires (λ c. search needs) returns)
+    Inv-loop μ-loop add-number loop-holds add-book-line-requires add-i (λ c. search needs) loop-again same-length returns)
