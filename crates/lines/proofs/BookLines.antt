@@ -1,4 +1,5 @@
--- The lines of the text of a book, each by its number.
+-- The lines of the text of a book, each by its number, and an edge as the arrays hold it: what the definitions come to in each arm of `book_line`.
+-- Not here: that these lines one behind the other are the text (crate writer); that they fit (crates writer and paging).
 -- Assumes nothing.
 use mathlib.Core.Path.{_≡_, refl, ap}
 use mathlib.Core.List.{[], _∷_}
@@ -8,7 +9,7 @@ use lib.ListN.{getD}
 use Rattle.rule.specs.declared.Book.{Book}
 use Rattle.rule.specs.Sets.{at}
 use Rattle.text.specs.Lines.{line, key-a, key-b, key-bodies, key-edges}
-use Rattle.text.specs.Sheets.{Edge, edgeText}
+use Rattle.text.specs.Sheets.{edgeText}
 use Rattle.pages.specs.Reads.{edgeOf}
 use Rattle.pages.specs.Reports.{bookLine}
 

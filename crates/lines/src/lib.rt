@@ -10,7 +10,7 @@ ghost use Rattle.text.specs.Sheets.{edgeText};
 ghost use Rattle.text.specs.Puts.{Writes};
 ghost use Rattle.pages.specs.Keys.{key-verdict, wordOf};
 ghost use Rattle.pages.specs.Reads.{edgeOf};
-ghost use Rattle.pages.specs.Reports.{bookLine};
+ghost use Rattle.pages.specs.Reports.{bookLine, bookText};
 ghost use Rattle.lines.specs.Adding.{Adds, item};
 use rule::Book;
 use rule::Verdict;
@@ -167,7 +167,7 @@ fn given_line(book: Book, e: u16, buffer: &mut [u8]) -> usize
 
 // Line i of the text of a book, counted from 0: the four lines of the head, and then the edges in order.
 pub fn book_line(book: Book, i: u16, buffer: &mut [u8]) -> usize
-    requires { ⌜ (i < 4 + book .count) × (book .count ≤ 512) ⌝ }
+    requires { ⌜ (i < bookText book .number) × (book .count ≤ 512) ⌝ }
     requires { ⌜ length (bookLine book i) ≤ length (now buffer) ⌝ }
     ensures { λ r. ⌜ Writes (bookLine book i) (now (buffer .entry)) (now (buffer .exit)) r ⌝ }
 {
@@ -182,7 +182,7 @@ pub fn book_line(book: Book, i: u16, buffer: &mut [u8]) -> usize
 
 // The same from a place on.
 pub fn add_book_line(buffer: &mut [u8], at: usize, book: Book, i: u16) -> usize
-    requires { ⌜ (i < 4 + book .count) × (book .count ≤ 512) ⌝ }
+    requires { ⌜ (i < bookText book .number) × (book .count ≤ 512) ⌝ }
     requires { ⌜ at + length (bookLine book i) ≤ length (now buffer) ⌝ }
     ensures { λ r. ⌜ Adds (bookLine book i) (now (buffer .entry)) (now (buffer .exit)) at r ⌝ }
 {

@@ -1,7 +1,7 @@
 -- How many lines a report and a certificate have of a book: the lines of their sections, added up.
 -- Assumes nothing.
 use mathlib.Core.Path.{_≡_}
-use Prim.Native.Nat.{ℕ, _+_}
+use Prim.Native.Nat.{_+_}
 use native.Mathlib.Omega.{arith}
 use Rattle.rule.specs.declared.Book.{Book}
 use Rattle.rule.specs.Books.{designOf}

@@ -75,6 +75,7 @@ bookLine B (suc (suc zero)) = line key-bodies (B .n ∷ [])
 bookLine B (suc (suc (suc zero))) = line key-edges (B .count ∷ [])
 bookLine B (suc (suc (suc (suc i)))) = edgeText (edgeOf B (suc i))
 
+-- all its lines
 abbrev pub bookText : Book → Section
 bookText B = record { number = 4 + B .count; Says = λ i. Exactly (bookLine B i) }
 

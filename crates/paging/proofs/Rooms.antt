@@ -7,7 +7,6 @@ use mathlib.Core.Path.{_≡_, ap}
 use mathlib.Core.Logic.{inl, inr}
 use mathlib.Core.List.{List, [], _∷_, _++_}
 use Prim.Native.Nat.{ℕ, zero, suc, _+_, _≤_, _<_}
-use native.Mathlib.Nat.{le-trans}
 use native.Mathlib.Omega.{arith}
 use lib.ListN.{length, getD, length-append}
 use mir.Syntax.{w64}
@@ -19,16 +18,17 @@ use Rattle.rule.specs.Figures.{verdict, Groups}
 use Rattle.rule.specs.Books.{designOf, keptOf, Sound}
 use Rattle.theory.proofs.Legal.Sound.{sound-head, sound-edge}
 use Rattle.text.specs.Lines.{LF, comma, numeral, listed, line, key-a, key-b, key-bodies, key-edges}
-use Rattle.text.specs.Sheets.{Edge, edgeText}
+use Rattle.text.specs.Sheets.{edgeText}
 use Rattle.text.proofs.Sizes.{line-length, edge-length}
 use Rattle.lines.proofs.Sizes.{Numbers, numeral-at-most-20, line-not-empty, number-line-at-most, line-at-most}
 use Rattle.pages.specs.declared.Received.{Received}
 use Rattle.pages.specs.Keys.{key-verdict, key-groups, wordOf}
 use Rattle.pages.specs.Sections.{Exactly, Nth}
 use Rattle.pages.specs.Reads.{edgeOf}
-use Rattle.pages.specs.Reports.{ImpliedLine, EdgeLine, GroupsLine, figures, reportLines, ReportLine, bookLine, ForestLine, certificateLines, CertificateLine, refusedLine}
+use Rattle.pages.specs.Reports.{ImpliedLine, EdgeLine, GroupsLine, figures, reportLines, ReportLine, bookLine, bookText, ForestLine, certificateLines, CertificateLine, refusedLine}
 use Rattle.pages.specs.Steps.{LineOf, lineRoom}
 use Rattle.pages.proofs.Sections.{Has, nth-has, line-has}
+use Rattle.pages.proofs.Edges.{rule-range}
 use Rattle.paging.specs.declared.Kind.{Kind}
 use Rattle.paging.specs.Kinds.{formOf}
 
@@ -63,18 +63,15 @@ module _ (B : Book) (sound : Sound B) where
       omega arith in
       omega (arith, line-at-most key-groups l small)
 
-  pub book-line-room : (i places : ℕ) → i < 4 + B .count → lineRoom ≤ places → length (bookLine B i) ≤ places
-  unfolding bookLine edgeOf
+  pub book-line-room : (i places : ℕ) → i < bookText B .number → lineRoom ≤ places → length (bookLine B i) ≤ places
+  unfolding bookLine
   book-line-room zero places less room = small-line-room key-a (B .a) places (omega arith) (omega (arith, sound-head B sound .profile .0 .high)) room
   book-line-room (suc zero) places less room = small-line-room key-b (B .b) places (omega arith) (omega (arith, sound-head B sound .profile .1 .high)) room
   book-line-room (suc (suc zero)) places less room = small-line-room key-bodies (B .n) places (omega arith) (omega (arith, sound-head B sound .bodies .high)) room
   book-line-room (suc (suc (suc zero))) places less room = small-line-room key-edges (B .count) places (omega arith) (sound-head B sound .edges) room
   book-line-room (suc (suc (suc (suc e)))) places less room =
-      let rule = sound-edge B sound (suc e) (omega arith) in
-      le-trans
-      (edge-length (B .n) (edgeOf B (suc e)) (sound-head B sound .bodies)
-      (record { one = rule .one; other = rule .other; different = rule .different; colour = rule .colour }))
-      (omega arith)
+      let range = rule-range B (suc e) (sound-edge B sound (suc e) (omega arith)) in
+      omega (arith, room, edge-length (B .n) (edgeOf B (suc e)) (sound-head B sound .bodies) range)
 
 -- ---- no line is empty
 

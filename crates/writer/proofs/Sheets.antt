@@ -10,13 +10,14 @@ use Prim.Native.Nat.{ℕ, zero, suc, _+_, _≤_}
 use native.Mathlib.Omega.{arith}
 use lib.ListN.{length, length-append}
 use Rattle.rule.specs.declared.Book.{Book}
-use Rattle.rule.specs.Books.{EdgeRule, Obeys, Sound}
+use Rattle.rule.specs.Books.{Obeys, Sound}
 use Rattle.theory.proofs.Legal.Sound.{sound-head}
 use Rattle.text.specs.Sheets.{EdgeRange, EdgesRange, SheetRange, edgeText, edgesText, headText, textOf, textRoom}
 use Rattle.text.proofs.SheetRuns.{edges-text-append}
 use Rattle.text.proofs.Sizes.{sheet-size}
 use Rattle.pages.specs.Reads.{edgeOf, edgesOf, sheetOf}
-use Rattle.pages.specs.Reports.{bookLine}
+use Rattle.pages.specs.Reports.{bookLine, bookText}
+use Rattle.pages.proofs.Edges.{rule-range}
 use Rattle.lines.proofs.Rounds.{Pieces}
 
 -- ---- the edges as a list
@@ -39,15 +40,11 @@ edges-range-snoc : (n : ℕ) (es : List Edge) (e : Edge) → EdgesRange n es →
 edges-range-snoc n [] e r q = (q, tt)
 edges-range-snoc n (f ∷ es) e r q = (r .0, edges-range-snoc n es e (r .1) q)
 
-edge-range : (B : Book) (e : ℕ) → EdgeRule B e → EdgeRange (B .n) (edgeOf B e)
-unfolding edgeOf
-edge-range B e r = record { one = r .one; other = r .other; different = r .different; colour = r .colour }
-
 edges-range : (B : Book) → Sound B → (m : ℕ) → m ≤ B .count → EdgesRange (B .n) (edgesOf B m)
 unfolding edgesOf Sound Obeys
 edges-range B sound zero h = tt
 edges-range B sound (suc m) h =
-    edges-range-snoc (B .n) (edgesOf B m) (edgeOf B (suc m)) (edges-range B sound m (omega arith)) (edge-range B (suc m) (sound (suc m) h))
+    edges-range-snoc (B .n) (edgesOf B m) (edgeOf B (suc m)) (edges-range B sound m (omega arith)) (rule-range B (suc m) (sound (suc m) h))
 
 -- The sheet of a sound book is in range.
 pub sound-sheet-range : (B : Book) → Sound B → SheetRange (sheetOf B)
@@ -83,11 +80,11 @@ lines-parts B (suc m) =
     ∙ append-assoc head (edgesText (edgesOf B m)) (edgeText (edgeOf B (suc m)))
     ∙ ap (λ (s : List ℕ). head ++ s) (sym (edges-text-more B m))
 
--- The text of a book is its lines.
-pub text-lines : (B : Book) → firstLines B (4 + B .count) ≡ textOf (sheetOf B)
+-- The text of a book is its lines, one behind the other.
+pub text-lines : (B : Book) → firstLines B (bookText B .number) ≡ textOf (sheetOf B)
 unfolding textOf sheetOf
 text-lines B =
-    let same : 4 + B .count ≡ suc (suc (suc (suc (B .count)))) = omega arith in
+    let same : bookText B .number ≡ suc (suc (suc (suc (B .count)))) = omega arith in
     ap (firstLines B) same
     ∙ lines-parts B (B .count)
     ∙ ap (λ (m : ℕ). headText (B .a) (B .b) (B .n) m ++ edgesText (edgesOf B (B .count))) (sym (edges-number B (B .count)))
@@ -98,5 +95,6 @@ text-lines B =
 pub sound-text-size : (B : Book) → Sound B → length (textOf (sheetOf B)) ≤ textRoom
 sound-text-size B sound = sheet-size (sheetOf B) (sound-sheet-range B sound)
 
-pub lines-room : (B : Book) → Sound B → (places : ℕ) → textRoom ≤ places → length (firstLines B (4 + B .count)) ≤ places
+-- written from the front on, its lines fit
+pub lines-room : (B : Book) → Sound B → (places : ℕ) → textRoom ≤ places → 0 + length (firstLines B (bookText B .number)) ≤ places
 lines-room B sound places room = omega (arith, ap length (text-lines B), sound-text-size B sound)
