@@ -1,7 +1,18 @@
 // Texts that a host might hand over: most of them are no book. For each, its name, the line at fault as the library hands it back, in brackets and
-// with bytes that do not print as their number, and the first line of its report. The file stdout has what document 01 says, decided by hand.
+// with bytes that do not print as their number, and the first line of its report. The texts are read from standard input: the file stdin says how they
+// are written there, and tests/texts.py reads it too. The file stdout has what document 01 says of them, decided by hand.
+mod lay;
+
+ghost use Prim.Native.Nat.{_≤_};
+use lay::Laid;
 use pages::Line;
 use paging::Kind;
+
+// The case that is being read: whether there is one yet, and how long its text is so far.
+struct Case {
+    open: bool,
+    size: usize,
+}
 
 // ---- what is written
 
@@ -46,353 +57,78 @@ fn first_line(book: &[u8]) {
     }
 }
 
-fn case(name: &[u8], book: &[u8]) {
-    text(name);
+fn outcome(book: &[u8]) {
     text(b" [");
     part(text::fault(book));
     text(b"] ");
     first_line(book);
 }
 
-// ---- whole texts
+// ---- the file of cases
 
-fn whole_texts() {
-    case(b"empty", b"");
-    case(b"one byte", b"a");
-    case(b"one LF", b"\n");
-    case(b"one NUL", b"\0");
-    case(b"one byte 255", b"\xff");
-    case(
-        b"byte order mark",
-        b"\xef\xbb\xbfa=1\nb=2\nbodies=3\nedges=2\nred=1,2\nblack=2,3\n",
-    );
-    case(
-        b"CRLF",
-        b"a=1\r\nb=2\r\nbodies=3\r\nedges=2\r\nred=1,2\r\nblack=2,3\r\n",
-    );
-    case(b"CR", b"a=1\rb=2\rbodies=3\redges=2\rred=1,2\rblack=2,3\r");
-    case(
-        b"CRLF in the last line only",
-        b"a=1\nb=2\nbodies=3\nedges=2\nred=1,2\nblack=2,3\r\n",
-    );
-    case(
-        b"no last LF",
-        b"a=1\nb=2\nbodies=3\nedges=2\nred=1,2\nblack=2,3",
-    );
-    case(b"no last LF, nor edges", b"a=1\nb=2\nbodies=3\nedges=0");
-    case(
-        b"extra LF",
-        b"a=1\nb=2\nbodies=3\nedges=2\nred=1,2\nblack=2,3\n\n",
-    );
-    case(
-        b"extra byte",
-        b"a=1\nb=2\nbodies=3\nedges=2\nred=1,2\nblack=2,3\nx",
-    );
-    case(
-        b"extra space",
-        b"a=1\nb=2\nbodies=3\nedges=2\nred=1,2\nblack=2,3\n ",
-    );
-    case(
-        b"extra NUL",
-        b"a=1\nb=2\nbodies=3\nedges=2\nred=1,2\nblack=2,3\n\0",
-    );
-    case(
-        b"extra line",
-        b"a=1\nb=2\nbodies=3\nedges=2\nred=1,2\nblack=2,3\nred=1,2\n",
-    );
-    case(
-        b"extra faulty line",
-        b"a=1\nb=2\nbodies=3\nedges=2\nred=1,2\nblack=2,3\nred=9,9\n",
-    );
-    case(
-        b"text twice",
-        b"a=1\nb=2\nbodies=3\nedges=2\nred=1,2\nblack=2,3\na=1\nb=2\nbodies=3\nedges=2\nred=1,2\nblack=2,3\n",
-    );
-    case(
-        b"LF in front",
-        b"\na=1\nb=2\nbodies=3\nedges=2\nred=1,2\nblack=2,3\n",
-    );
-    case(
-        b"space in front",
-        b" a=1\nb=2\nbodies=3\nedges=2\nred=1,2\nblack=2,3\n",
-    );
-    case(
-        b"empty line in the middle",
-        b"a=1\nb=2\nbodies=3\nedges=2\nred=1,2\n\nblack=2,3\n",
-    );
-}
-
-// ---- missing lines
-
-fn missing_lines() {
-    case(b"only a", b"a=1\n");
-    case(b"only a and b", b"a=1\nb=2\n");
-    case(b"no edges line", b"a=1\nb=2\nbodies=3\n");
-    case(b"edges but none there", b"a=1\nb=2\nbodies=3\nedges=2\n");
-    case(
-        b"edges too many by one",
-        b"a=1\nb=2\nbodies=3\nedges=2\nred=1,2\n",
-    );
-    case(
-        b"edges too few by one",
-        b"a=1\nb=2\nbodies=3\nedges=1\nred=1,2\nblack=2,3\n",
-    );
-    case(b"half a line", b"a=1\nb=2\nbodies=3\nedges=2\nred=1,2\nbla");
-}
-
-// ---- keys and their order
-
-fn keys() {
-    case(b"b before a", b"b=2\na=1\nbodies=3\nedges=0\n");
-    case(b"edges before bodies", b"a=1\nb=2\nedges=0\nbodies=3\n");
-    case(b"a twice", b"a=1\na=1\nb=2\nbodies=3\nedges=0\n");
-    case(b"capital key", b"A=1\nb=2\nbodies=3\nedges=0\n");
-    case(
-        b"unknown colour",
-        b"a=1\nb=2\nbodies=3\nedges=2\ngreen=1,2\nblack=2,3\n",
-    );
-    case(
-        b"capital colour",
-        b"a=1\nb=2\nbodies=3\nedges=2\nRed=1,2\nblack=2,3\n",
-    );
-    case(b"words for edges", b"a=1\nb=2\nbodies=3\nwords=0\n");
-    case(
-        b"form line",
-        b"form=2\na=1\nb=2\nbodies=3\nedges=2\nred=1,2\nblack=2,3\n",
-    );
-    case(b"no equals sign", b"a1\nb=2\nbodies=3\nedges=0\n");
-    case(b"two equals signs", b"a==1\nb=2\nbodies=3\nedges=0\n");
-    case(
-        b"space before the equals sign",
-        b"a =1\nb=2\nbodies=3\nedges=0\n",
-    );
-    case(b"space after it", b"a= 1\nb=2\nbodies=3\nedges=0\n");
-    case(
-        b"space at the line's end",
-        b"a=1 \nb=2\nbodies=3\nedges=0\n",
-    );
-    case(b"tab", b"a=\t1\nb=2\nbodies=3\nedges=0\n");
-}
-
-// ---- numbers
-
-fn numbers() {
-    case(b"leading zero", b"a=01\nb=2\nbodies=3\nedges=0\n");
-    case(b"two zeros", b"a=00\nb=2\nbodies=3\nedges=0\n");
-    case(b"no digit", b"a=\nb=2\nbodies=3\nedges=0\n");
-    case(b"four digits", b"a=1000\nb=2\nbodies=3\nedges=0\n");
-    case(b"sign", b"a=+1\nb=2\nbodies=3\nedges=0\n");
-    case(b"minus", b"a=-1\nb=2\nbodies=3\nedges=0\n");
-    case(b"letter", b"a=x\nb=2\nbodies=3\nedges=0\n");
-    case(b"digit behind NUL", b"a=1\0\nb=2\nbodies=3\nedges=0\n");
-    case(
-        b"digit of another script",
-        b"a=\xd9\xa1\nb=2\nbodies=3\nedges=0\n",
-    );
-    case(b"the byte before 0", b"a=/\nb=2\nbodies=3\nedges=0\n");
-    case(b"the byte after 9", b"a=:\nb=2\nbodies=3\nedges=0\n");
-    case(
-        b"a digit with its top bit",
-        b"a=\xb1\nb=2\nbodies=3\nedges=0\n",
-    );
-    case(
-        b"a number of 256 and more",
-        b"a=257\nb=2\nbodies=3\nedges=0\n",
-    );
-}
-
-// ---- ranges
-
-fn ranges() {
-    case(b"a 0", b"a=0\nb=2\nbodies=3\nedges=0\n");
-    case(b"a 4", b"a=4\nb=2\nbodies=3\nedges=0\n");
-    case(b"a 999", b"a=999\nb=2\nbodies=3\nedges=0\n");
-    case(b"b 0", b"a=1\nb=0\nbodies=3\nedges=0\n");
-    case(b"b 4", b"a=1\nb=4\nbodies=3\nedges=0\n");
-    case(b"a 0 and b 0", b"a=0\nb=0\nbodies=3\nedges=0\n");
-    case(b"a 4 with nothing behind", b"a=4\n");
-    case(b"a 4 without LF", b"a=4");
-    case(b"a 4, then a bad line", b"a=4\nx\n");
-    case(b"bodies 0", b"a=1\nb=2\nbodies=0\nedges=0\n");
-    case(b"bodies 65", b"a=1\nb=2\nbodies=65\nedges=0\n");
-    case(b"bodies 065", b"a=1\nb=2\nbodies=065\nedges=0\n");
-    case(b"bodies 0064", b"a=1\nb=2\nbodies=0064\nedges=0\n");
-    case(b"bodies 320", b"a=1\nb=2\nbodies=320\nedges=0\n");
-    case(b"edges 513", b"a=1\nb=2\nbodies=3\nedges=513\n");
-    case(b"edges 999", b"a=1\nb=2\nbodies=3\nedges=999\n");
-    case(b"edges 1000", b"a=1\nb=2\nbodies=3\nedges=1000\n");
-    case(b"edges 512, none there", b"a=1\nb=2\nbodies=3\nedges=512\n");
-    case(b"edges 00", b"a=1\nb=2\nbodies=3\nedges=00\n");
-}
-
-// ---- edges
-
-fn edges() {
-    case(
-        b"body 0",
-        b"a=1\nb=2\nbodies=3\nedges=2\nred=0,2\nblack=2,3\n",
-    );
-    case(
-        b"second body 0",
-        b"a=1\nb=2\nbodies=3\nedges=2\nred=1,0\nblack=2,3\n",
-    );
-    case(
-        b"body n+1",
-        b"a=1\nb=2\nbodies=3\nedges=2\nred=1,4\nblack=2,3\n",
-    );
-    case(
-        b"body n+1 in the last line",
-        b"a=1\nb=2\nbodies=3\nedges=2\nred=1,2\nblack=4,3\n",
-    );
-    case(
-        b"body 257",
-        b"a=1\nb=2\nbodies=3\nedges=2\nred=1,257\nblack=2,3\n",
-    );
-    case(
-        b"body 999",
-        b"a=1\nb=2\nbodies=3\nedges=2\nred=999,1\nblack=2,3\n",
-    );
-    case(
-        b"body 1000",
-        b"a=1\nb=2\nbodies=3\nedges=2\nred=1000,1\nblack=2,3\n",
-    );
-    case(
-        b"equal ends",
-        b"a=1\nb=2\nbodies=3\nedges=2\nred=2,2\nblack=2,3\n",
-    );
-    case(
-        b"equal ends, both 0",
-        b"a=1\nb=2\nbodies=3\nedges=2\nred=0,0\nblack=2,3\n",
-    );
-    case(
-        b"equal ends, both n+1",
-        b"a=1\nb=2\nbodies=3\nedges=2\nblack=4,4\nblack=2,3\n",
-    );
-    case(
-        b"equal ends, then a bad line",
-        b"a=1\nb=2\nbodies=3\nedges=2\nred=1,1\nx\n",
-    );
-    case(
-        b"equal ends without LF",
-        b"a=1\nb=2\nbodies=3\nedges=2\nred=1,2\nblack=1,1",
-    );
-    case(
-        b"leading zero in a body",
-        b"a=1\nb=2\nbodies=3\nedges=2\nred=01,2\nblack=2,3\n",
-    );
-    case(
-        b"leading zero in the other body",
-        b"a=1\nb=2\nbodies=3\nedges=2\nred=1,02\nblack=2,3\n",
-    );
-    case(
-        b"one body",
-        b"a=1\nb=2\nbodies=3\nedges=2\nred=1\nblack=2,3\n",
-    );
-    case(
-        b"three bodies",
-        b"a=1\nb=2\nbodies=3\nedges=2\nred=1,2,3\nblack=2,3\n",
-    );
-    case(
-        b"space after the comma",
-        b"a=1\nb=2\nbodies=3\nedges=2\nred=1, 2\nblack=2,3\n",
-    );
-    case(
-        b"empty body",
-        b"a=1\nb=2\nbodies=3\nedges=2\nred=,2\nblack=2,3\n",
-    );
-    case(
-        b"semicolon",
-        b"a=1\nb=2\nbodies=3\nedges=2\nred=1;2\nblack=2,3\n",
-    );
-    case(
-        b"an edge of one body only",
-        b"a=1\nb=2\nbodies=1\nedges=1\nred=1,1\n",
-    );
-    case(
-        b"an edge to body 2 of one",
-        b"a=1\nb=2\nbodies=1\nedges=1\nred=1,2\n",
-    );
-}
-
-// ---- sizes
-
-// The byte at a place of the longest book text: [3,3], 64 bodies and 512 black edges between bodies of two digits.
-fn longest(i: usize) -> u8 {
-    let head = b"a=3\nb=3\nbodies=64\nedges=512\n";
-    if i < head.len() {
-        return head[i];
-    }
-    let e = (i - head.len()) / 12;
-    let place = (i - head.len()) % 12;
-    let key = b"black=";
-    if place < key.len() {
-        return key[place];
-    }
-    match place {
-        6 => 49 + (e % 50 / 10) as u8,
-        7 => 48 + (e % 10) as u8,
-        8 => b',',
-        9 => b'6',
-        10 => 48 + (e % 5) as u8,
-        _ => b'\n',
+// The case is whole. A text that fills the space was cut, and is no case.
+fn finish(space: &[u8], case: Case, number: usize) {
+    if case.open {
+        let size = case.size;
+        if size < space.len() {
+            outcome(&space[..size]);
+        } else {
+            cases::bad(number);
+        }
     }
 }
 
-fn part_of(name: &[u8], bytes: &[u8], size: usize) {
-    if size <= bytes.len() {
-        case(name, &bytes[..size]);
+// A line of a case's text.
+fn further(line: &[u8], number: usize, space: &mut [u8], case: Case) -> Case {
+    let mut next = case;
+    let r = lay::line(line, space, case.size);
+    match r {
+        Laid::To(size) => next.size = size,
+        Laid::Bad => cases::bad(number),
     }
+    next
 }
 
-// As much of the longest book text as there is room for, and a byte behind it again and again.
-fn lay(space: &mut [u8], behind: u8) {
-    let mut i = 0;
-    while i < space.len() {
-        space[i] = if i < 6172 { longest(i) } else { behind };
-        i += 1;
+fn take_line(line: &[u8], number: usize, space: &mut [u8], case: Case) -> Case {
+    if cases::silent(line) {
+        return case;
     }
+    if cases::names(line) {
+        finish(space, case, number);
+        cases::write_name(line);
+        return Case {
+            open: true,
+            size: 0,
+        };
+    }
+    if case.open {
+        return further(line, number, space, case);
+    }
+    cases::bad(number);
+    case
 }
 
-// The first bytes of that.
-fn cut(name: &[u8], size: usize, behind: u8) {
-    let mut space = [0u8; 8193];
-    lay(&mut space, behind);
-    part_of(name, &space, size);
-}
-
-// Its last edge from a body to itself.
-fn last_edge() {
-    let mut space = [0u8; 6172];
-    lay(&mut space, 0);
-    space[6169] = space[6166];
-    space[6170] = space[6167];
-    case(b"a fault in edge 512", &space);
-}
-
-fn no_line() {
-    let all = [b'\n'; 8192];
-    case(b"8,192 LF", &all);
-    let none = [b'1'; 8193];
-    case(b"8,193 bytes with no LF", &none);
-}
-
-fn sizes() {
-    cut(b"6,172 bytes", 6172, 0);
-    cut(b"6,173 bytes", 6173, b'\n');
-    cut(b"6,171 bytes", 6171, 0);
-    cut(b"8,191 bytes", 8191, b'x');
-    cut(b"8,192 bytes", 8192, b'x');
-    cut(b"8,193 bytes", 8193, b'x');
-    last_edge();
-    no_line();
+fn run(file: &[u8], space: &mut [u8]) {
+    let mut case = Case {
+        open: false,
+        size: 0,
+    };
+    let mut at = 0;
+    let mut number = 0;
+    while at < file.len() {
+        let next = cases::past_line(file, at);
+        number += 1;
+        case = take_line(&file[at..next], number, space, case);
+        at = next;
+    }
+    finish(space, case, number);
 }
 
 fn main() {
-    whole_texts();
-    missing_lines();
-    keys();
-    numbers();
-    ranges();
-    edges();
-    sizes();
+    let mut file = [0u8; 65536];
+    let input: &mut [u8] = &mut file;
+    let n = io::read_full(0, input);
+    let whole = &input[..];
+    let mut space = [0u8; 24576];
+    run(&whole[..n], &mut space);
 }

@@ -1,19 +1,18 @@
--- `hostile::lay`: the places left grow fewer.
+-- `cases::begins`: the bytes of the key that are left grow fewer.
 use borrow.Author.Needs.{needs}
-use mathlib.Core.Path.{_≡_}
 use Prim.Native.Nat.{_-_}
 use lib.ListN.{length}
-use Rattle.hostile.proofs.lay.Statement.{statement}
-use Rattle.hostile.proofs.lay.Tie as tie
+use Rattle.cases.proofs.begins.Statement.{statement}
+use Rattle.cases.proofs.begins.Tie as tie
 
 abbrev Inv-loop : tie.InvT-loop
-Inv-loop space₀ behind i₀ space i = length space ≡ length space₀
+Inv-loop line key i₀ i = Unit
 
 abbrev μ-loop : tie.MeasureT-loop
-μ-loop space₀ behind i₀ space i = length space₀ - i
+μ-loop line key i₀ i = length key - i
 
-pub lay-spec : {M : Type 1} → statement M
-lay-spec =
+pub begins-spec : {M : Type 1} → statement M
+begins-spec =
     tie.close
     (tie.spec
     Inv-loop μ-loop (λ c. search needs) (λ c κs. search needs) (λ c. search needs) (λ c. search needs) (λ c. search needs)
