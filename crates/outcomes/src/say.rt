@@ -68,7 +68,7 @@ pub fn done(said: Done) {
     }
 }
 
-pub fn figure(name: &[u8], said: Figure) {
+fn figure(name: &[u8], said: Figure) {
     text(name);
     match said {
         Figure::Number(n) => {
@@ -147,11 +147,14 @@ fn group_list(book: Book) {
     grouped(r, &list, n);
 }
 
-// Everything that is asked of a book at its end, and the line's end.
-pub fn close(book: Book) {
+pub fn free(book: Book) {
     figure(b" free", book::freedom(book));
+}
+
+// Everything that is asked of a book at its end.
+pub fn close(book: Book) {
+    free(book);
     figure(b" dropped", book::dropped(book));
     judged(book::verdict(book));
     group_list(book);
-    text(b"\n");
 }

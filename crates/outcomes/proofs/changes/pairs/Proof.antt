@@ -1,8 +1,8 @@
--- `outcomes::pairs`: each turn goes on to the next body.
+-- `outcomes::changes::pairs`: each turn goes on to the next body.
 use borrow.Author.Needs.{needs}
 use Prim.Native.Nat.{_-_}
-use Rattle.outcomes.proofs.pairs.Statement.{statement}
-use Rattle.outcomes.proofs.pairs.Tie as tie
+use Rattle.outcomes.proofs.changes.pairs.Statement.{statement}
+use Rattle.outcomes.proofs.changes.pairs.Tie as tie
 
 abbrev Inv-loop : tie.InvT-loop
 Inv-loop reds blacks next₀ u₀ next u = Unit

@@ -1,14 +1,14 @@
--- `outcomes::several`: each turn offers one edge.
+-- `outcomes::changes::several`: each turn offers one edge.
 use borrow.Author.Needs.{needs}
 use Prim.Native.Nat.{_-_}
-use Rattle.outcomes.proofs.several.Statement.{statement}
-use Rattle.outcomes.proofs.several.Tie as tie
+use Rattle.outcomes.proofs.changes.several.Statement.{statement}
+use Rattle.outcomes.proofs.changes.several.Tie as tie
 
 abbrev Inv-loop : tie.InvT-loop
-Inv-loop given times next₀ i₀ next i = Unit
+Inv-loop times u v colour next₀ i₀ next i = Unit
 
 abbrev μ-loop : tie.MeasureT-loop
-μ-loop given times next₀ i₀ next i = times - i
+μ-loop times u v colour next₀ i₀ next i = times - i
 
 pub several-spec : {M : Type 1} → statement M
 several-spec =
