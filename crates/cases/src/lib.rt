@@ -1,5 +1,7 @@
 // Files of cases, that programs read from standard input and run one by one. A line `case=` with a name begins a case, and the lines up to the next
 // such line belong to it; what they say is the program's own. Empty lines, and lines that begin with #, say nothing.
+pub mod keys;
+
 ghost use Prim.Native.Nat.{_≤_, _<_};
 ghost use lib.ListN.{length};
 

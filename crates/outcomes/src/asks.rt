@@ -1,16 +1,19 @@
 // Lines that ask about the book as it is, and leave it so.
+use crate::changes;
 use crate::say;
 use rule::Book;
+
+fn question(book: Book, n: &[usize; 5], list: &mut [u16]) {
+    let answer = step::question(book, n[0], n[1], n[2], list);
+    say::answer(answer, list);
+}
 
 // The same edge asked about and offered, with one list.
 fn both(book: Book, n: &[usize; 5], list: &mut [u16]) {
     say::text(b" question");
-    let asked = step::question(book, n[0], n[1], n[2], list);
-    say::answer(asked, list);
+    question(book, n, list);
     say::text(b" offer");
-    let r = step::offer(book, n[0], n[1], n[2], list);
-    let answer = r.answer;
-    say::answer(answer, list);
+    changes::offer(book, n[0], n[1], n[2], list, true);
 }
 
 // The list has as many places as the line says.
@@ -26,9 +29,7 @@ fn ask(book: Book, n: &[usize; 5]) {
 // An edge is offered with a list of sevens, whose first places are written then: past the answer they are sevens still.
 fn lent(book: Book, n: &[usize; 5]) {
     let mut list = [7u16; 380];
-    let r = step::offer(book, n[0], n[1], n[2], &mut list);
-    let answer = r.answer;
-    say::answer(answer, &list);
+    changes::offer(book, n[0], n[1], n[2], &mut list, true);
     say::text(b" list=");
     say::numbers(&list, 4);
 }

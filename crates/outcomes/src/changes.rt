@@ -11,29 +11,29 @@ fn open(n: &[usize; 5]) -> Book {
     r.book
 }
 
-fn offer(book: Book, n: &[usize; 5], colour: usize) -> Book {
-    let mut list = [0u16; 378];
-    let r = step::offer(book, n[0], n[1], colour, &mut list);
+// With any list, and with the answer written or not.
+pub fn offer(book: Book, u: usize, v: usize, colour: usize, list: &mut [u16], loud: bool) -> Book {
+    let r = step::offer(book, u, v, colour, list);
     let answer = r.answer;
-    say::answer(answer, &list);
+    if loud {
+        say::answer(answer, list);
+    }
     r.book
+}
+
+fn edge_offer(book: Book, u: usize, v: usize, colour: usize, loud: bool) -> Book {
+    let mut list = [0u16; 378];
+    offer(book, u, v, colour, &mut list, loud)
 }
 
 // ---- large books
 
-// An edge is offered, and nothing is written.
-fn silent(book: Book, u: usize, v: usize, colour: usize) -> Book {
-    let mut list = [0u16; 378];
-    let r = step::offer(book, u, v, colour, &mut list);
-    r.book
-}
-
-// So many edges between u and v, of one colour, are offered so.
+// So many edges between u and v, of one colour, are offered, and nothing is written.
 fn several(book: Book, times: usize, u: usize, v: usize, colour: usize) -> Book {
     let mut next = book;
     let mut i: usize = 0;
     while i < times {
-        next = silent(next, u, v, colour);
+        next = edge_offer(next, u, v, colour, false);
         i = i + 1;
     }
     next
@@ -107,8 +107,8 @@ fn edge(book: Book, n: &[usize; 5]) -> Book {
 pub fn change(key: u8, book: Book, n: &[usize; 5]) -> Book {
     match key {
         b'o' => open(n),
-        b'r' => offer(book, n, 1),
-        b'b' => offer(book, n, 2),
+        b'r' => edge_offer(book, n[0], n[1], 1, true),
+        b'b' => edge_offer(book, n[0], n[1], 2, true),
         b't' => several(book, n[0], n[1], n[2], n[3]),
         b'p' => pairs(book, n[0], n[1]),
         b'h' => head(n),

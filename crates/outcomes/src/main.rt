@@ -3,7 +3,6 @@
 // file stdout has what the definitions of document 01 give.
 mod asks;
 mod changes;
-mod keys;
 mod say;
 
 ghost use Prim.Native.Nat.{_≤_};
@@ -21,10 +20,19 @@ fn begun(line: &[u8], open: bool) -> bool {
     open
 }
 
-// What a line asks is done, and it is answered from the book that is then there.
+// The letter of a line's key, its numbers put into the list; 0 where the line is not understood.
+fn read(line: &[u8], list: &mut [usize]) -> u8 {
+    cases::keys::read(
+        b"open=  3red=   2black= 2times= 4pairs= 2head=  5edge=  5ask=   4lent=  3free   0close  0groups=1",
+        line,
+        list,
+    )
+}
+
+// A line below a case's name is carried out.
 fn carried_out(line: &[u8], number: usize, book: Book) -> Book {
     let mut numbers = [0usize; 5];
-    let key = keys::read(line, &mut numbers);
+    let key = read(line, &mut numbers);
     if key == 0 {
         cases::bad(number);
         return book;

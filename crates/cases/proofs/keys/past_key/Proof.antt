@@ -1,8 +1,8 @@
--- `outcomes::keys::past_key`: the bytes of the row that are left grow fewer.
+-- `cases::keys::past_key`: the bytes of the row that are left grow fewer.
 use borrow.Author.Needs.{needs}
 use Prim.Native.Nat.{_-_}
-use Rattle.outcomes.proofs.keys.past_key.Statement.{statement}
-use Rattle.outcomes.proofs.keys.past_key.Tie as tie
+use Rattle.cases.proofs.keys.past_key.Statement.{statement}
+use Rattle.cases.proofs.keys.past_key.Tie as tie
 
 abbrev Inv-loop : tie.InvT-loop
 Inv-loop line row i₀ i = Unit

@@ -1,9 +1,9 @@
--- `outcomes::keys::key_in`: the rows that are left stand in the table, and grow fewer.
+-- `cases::keys::key_in`: the rows that are left stand in the table, and grow fewer.
 use borrow.Author.Needs.{needs}
 use Prim.Native.Nat.{_≤_, _*_}
 use lib.ListN.{length}
-use Rattle.outcomes.proofs.keys.key_in.Statement.{statement}
-use Rattle.outcomes.proofs.keys.key_in.Tie as tie
+use Rattle.cases.proofs.keys.key_in.Statement.{statement}
+use Rattle.cases.proofs.keys.key_in.Tie as tie
 
 abbrev Inv-loop : tie.InvT-loop
 Inv-loop table line left₀ left = left * 8 ≤ length table

@@ -1,10 +1,10 @@
--- `outcomes::keys::numbers`: the numbers that are due still grow fewer.
+-- `cases::keys::numbers`: the numbers that are due still grow fewer.
 use borrow.Author.Needs.{needs}
 use mathlib.Core.Path.{_≡_}
 use Prim.Native.Nat.{_-_}
 use lib.ListN.{length}
-use Rattle.outcomes.proofs.keys.numbers.Statement.{statement}
-use Rattle.outcomes.proofs.keys.numbers.Tie as tie
+use Rattle.cases.proofs.keys.numbers.Statement.{statement}
+use Rattle.cases.proofs.keys.numbers.Tie as tie
 
 abbrev Inv-loop : tie.InvT-loop
 Inv-loop line from due list₀ at₀ i₀ list at i = length list ≡ length list₀

@@ -1,6 +1,8 @@
-// A line of the file of cases: a key, and its numbers with commas between. No two keys begin with the same letter, which then stands for the key.
+// Lines of a key and its numbers, with commas between. A program names its keys in a table: eight bytes for each, the key with spaces behind it and then
+// the number of numbers that are due. No two keys begin with the same letter, which stands for the key.
 ghost use Prim.Native.Nat.{_≤_, _<_};
 ghost use lib.ListN.{length};
+use crate::byte;
 use text::Reading;
 
 // A key that was found: its first letter, or 0; the place past it; and how many numbers are due there.
@@ -10,15 +12,15 @@ struct Found {
     numbers: usize,
 }
 
-// The place past a key, where a line begins with it, and 0 where not. The key stands in a row of eight bytes of the table, with spaces behind it.
+// The place past the key of a row, where a line begins with it, and 0 where not.
 fn past_key(line: &[u8], row: &[u8]) -> usize {
     let mut i: usize = 0;
     while i < 7 {
-        let x = cases::byte(row, i);
+        let x = byte(row, i);
         if x == b' ' {
             return i;
         }
-        if cases::byte(line, i) != x {
+        if byte(line, i) != x {
             return 0;
         }
         i += 1;
@@ -33,7 +35,7 @@ fn digit(x: u8) -> usize {
     (x - 48) as usize
 }
 
-// The key of a line in a table, whose rows have the number of numbers that are due as their last byte.
+// The key of a line in a table.
 fn key_in(table: &[u8], line: &[u8]) -> Found {
     let mut left = table.len() / 8;
     while 0 < left {
@@ -43,9 +45,9 @@ fn key_in(table: &[u8], line: &[u8]) -> Found {
         let past = past_key(line, row);
         if 0 < past {
             return Found {
-                letter: cases::byte(row, 0),
+                letter: byte(row, 0),
                 past: past,
-                numbers: digit(cases::byte(row, 7)),
+                numbers: digit(byte(row, 7)),
             };
         }
     }
@@ -54,13 +56,6 @@ fn key_in(table: &[u8], line: &[u8]) -> Found {
         past: 0,
         numbers: 0,
     }
-}
-
-fn key_of(line: &[u8]) -> Found {
-    key_in(
-        b"open=  3red=   2black= 2times= 4pairs= 2head=  5edge=  5ask=   4lent=  3free   0close  0groups=1",
-        line,
-    )
 }
 
 // The number at a place of a line, with the byte `stop` behind it, and the place past that.
@@ -105,10 +100,10 @@ fn numbers(line: &[u8], from: usize, due: usize, list: &mut [usize]) -> bool {
 }
 
 // The letter of a line's key, its numbers put into the list; 0 where the line is not understood.
-pub fn read(line: &[u8], list: &mut [usize]) -> u8 {
-    let found = key_of(line);
+pub fn read(table: &[u8], line: &[u8], list: &mut [usize]) -> u8 {
+    let found = key_in(table, line);
     if found.numbers == 0 {
-        if cases::byte(line, found.past) == b'\n' {
+        if byte(line, found.past) == b'\n' {
             return found.letter;
         }
         return 0;
