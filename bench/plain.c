@@ -10,18 +10,19 @@ static uint64_t bit(int i)
     return (uint64_t)1 << (i & 63);
 }
 
-/* ---- rooted forests */
-
-static void clear(struct forest *f, int n)
+static uint64_t all_bodies(const struct book *book)
 {
-    for (int v = 0; v < n; v++) {
-        f->bodies[v] = bit(v);
-        f->up[v] = NO_EDGE;
-        f->above[v] = 0;
-        f->depth[v] = 0;
-        f->tree[v] = v;
-    }
+    return ~(uint64_t)0 >> (64 - book->n);
 }
+
+static void exchange(int *x, int *y)
+{
+    int t = *x;
+    *x = *y;
+    *y = t;
+}
+
+/* ---- rooted forests */
 
 /* makes v the root of its tree and hangs it below u by edge x */
 static void hang(struct forest *f, int v, int u, int x)
@@ -38,229 +39,235 @@ static void hang(struct forest *f, int v, int u, int x)
     }
 }
 
-/* sets the depth of these bodies, that of the bodies above them being right */
-static void measure(struct forest *f, uint64_t bodies)
+/* sets the ways of these bodies, which have one above each; those of the other bodies above them are right */
+static void set_ways(struct book *book, int i, uint64_t bodies)
 {
+    const struct forest *f = &book->rooted[i];
     uint8_t climbed[MOST_BODIES];
     while (bodies) {
-        int v = __builtin_ctzll(bodies), steps = 0, depth;
-        for (;;) {
+        int v = __builtin_ctzll(bodies), steps = 0;
+        do {
             climbed[steps++] = v;
             bodies ^= bit(v);
-            if (f->up[v] == NO_EDGE) {
-                depth = 0;
-                break;
-            }
             v = f->above[v];
-            if (!(bodies & bit(v))) {
-                depth = f->depth[v] + 1;
-                break;
-            }
+        } while (bodies & bit(v));
+        for (uint64_t way = book->way[v][i]; steps;) {
+            v = climbed[--steps];
+            book->way[v][i] = way |= bit(v);
         }
-        while (steps)
-            f->depth[climbed[--steps]] = depth++;
     }
 }
 
-/* adds edge x, whose ends are in two trees. The smaller tree is hung below the other, so that few depths change */
-static void join(struct forest *f, int u, int v, int x)
+/* adds edge x to forest i, where its ends are in two trees. The smaller tree is hung below the other, so that few ways change */
+static void join(struct book *book, int i, int x)
 {
-    int big = f->tree[u], small = f->tree[v];
-    if (__builtin_popcountll(f->bodies[big]) < __builtin_popcountll(f->bodies[small])) {
-        int t = big;
-        big = small;
-        small = t;
-        t = u;
-        u = v;
-        v = t;
+    struct forest *f = &book->rooted[i];
+    int u = book->one[x], v = book->other[x], big = book->tree[u][i], small = book->tree[v][i];
+    if (f->size[big] < f->size[small]) {
+        exchange(&u, &v);
+        exchange(&big, &small);
     }
     uint64_t moving = f->bodies[small];
     hang(f, v, u, x);
+    set_ways(book, i, moving);
     f->bodies[big] |= moving;
-    measure(f, moving);
-    while (moving) {
-        f->tree[__builtin_ctzll(moving)] = big;
-        moving &= moving - 1;
+    f->size[big] += f->size[small];
+    for (; moving; moving &= moving - 1)
+        book->tree[__builtin_ctzll(moving)][i] = big;
+}
+
+/* the bodies whose way in forest i goes over this one */
+static uint64_t below(const struct book *book, int i, int low)
+{
+    uint64_t bodies = 0;
+    for (int v = 0; v < book->n; v++)
+        bodies |= (book->way[v][i] >> low & 1) << v;
+    return bodies;
+}
+
+/* puts edge x in the place of edge y, which is on the path between the ends of x in forest i */
+static void swap(struct book *book, int i, int x, int y)
+{
+    struct forest *f = &book->rooted[i];
+    int u = book->one[x], v = book->other[x], low = book->one[y];
+    if (f->up[low] != y)
+        low = book->other[y];
+    if (book->way[u][i] & bit(low))
+        exchange(&u, &v);
+    uint64_t moving = below(book, i, low);
+    f->up[low] = NO_EDGE;
+    hang(f, v, u, x);
+    set_ways(book, i, moving);
+}
+
+/* ---- all forests rooted afresh */
+
+/* the ends of edges at each body of a forest, in a list: 2x is the first end of edge x and 2x + 1 the other */
+struct ends {
+    uint16_t first[MOST_FORESTS][MOST_BODIES];
+    uint16_t next[2 * MOST_EDGES];
+};
+
+static void gather(const struct book *book, struct ends *ends)
+{
+    memset(ends->first, 0xff, sizeof ends->first);
+    for (int x = 0; x < book->edges; x++) {
+        if (!book->forest[x])
+            continue;
+        uint16_t *first = ends->first[book->forest[x] - 1];
+        int u = book->one[x], v = book->other[x];
+        ends->next[2 * x] = first[u];
+        first[u] = 2 * x;
+        ends->next[2 * x + 1] = first[v];
+        first[v] = 2 * x + 1;
     }
 }
 
-/* puts edge x, with ends u and v, in the place of edge y, which is on the path from u to v */
-static void swap(struct forest *f, int u, int v, int x, const struct book *book, int y)
+/* hangs below this root whatever is joined to it, nearest bodies first. Which bodies these are */
+static uint64_t grow(struct book *book, int i, const struct ends *ends, int root)
 {
-    int low = book->one[y];
-    if (f->up[low] != y)
-        low = book->other[y];
-    int w = v;
-    while (f->depth[w] > f->depth[low])
-        w = f->above[w];
-    if (w != low) {
-        int t = u;
-        u = v;
-        v = t;
+    struct forest *f = &book->rooted[i];
+    uint8_t found[MOST_BODIES];
+    int tail = 1;
+    uint64_t bodies = bit(root);
+    found[0] = root;
+    f->up[root] = NO_EDGE;
+    book->way[root][i] = 0;
+    for (int head = 0; head < tail; head++) {
+        int v = found[head], up = f->up[v];
+        uint64_t way = book->way[v][i];
+        book->tree[v][i] = root;
+        for (int end = ends->first[i][v]; end != NO_EDGE; end = ends->next[end]) {
+            int x = end >> 1, w = end & 1 ? book->one[x] : book->other[x];
+            if (x == up)
+                continue;
+            f->up[w] = x;
+            f->above[w] = v;
+            book->way[w][i] = way | bit(w);
+            bodies |= bit(w);
+            found[tail++] = w;
+        }
     }
-    f->up[low] = NO_EDGE;
-    hang(f, v, u, x);
-    measure(f, f->bodies[f->tree[u]]);
+    f->bodies[root] = bodies;
+    f->size[root] = tail;
+    return bodies;
 }
 
 void plain_root(struct book *book)
 {
-    uint16_t first[MOST_FORESTS][MOST_BODIES], next[2 * MOST_EDGES];
-    int k = book->a + book->b, n = book->n;
-    for (int f = 0; f < k; f++)
-        for (int v = 0; v < n; v++)
-            first[f][v] = NO_EDGE;
-    for (int x = 0; x < book->edges; x++) {
-        int f = book->forest[x] - 1;
-        if (f < 0)
-            continue;
-        int u = book->one[x], v = book->other[x];
-        next[2 * x] = first[f][u];
-        first[f][u] = 2 * x;
-        next[2 * x + 1] = first[f][v];
-        first[f][v] = 2 * x + 1;
-    }
-    for (int f = 0; f < k; f++) {
-        struct forest *rooted = &book->rooted[f];
-        uint64_t rest = n == 64 ? ~(uint64_t)0 : bit(n) - 1;
-        while (rest) {
-            uint8_t found[MOST_BODIES];
-            int root = __builtin_ctzll(rest), head = 0, tail = 1;
-            uint64_t bodies = bit(root);
-            found[0] = root;
-            rooted->up[root] = NO_EDGE;
-            rooted->above[root] = 0;
-            rooted->depth[root] = 0;
-            rooted->tree[root] = root;
-            while (head < tail) {
-                int v = found[head++];
-                for (int end = first[f][v]; end != NO_EDGE; end = next[end]) {
-                    int x = end >> 1;
-                    if (x == rooted->up[v])
-                        continue;
-                    int w = end & 1 ? book->one[x] : book->other[x];
-                    rooted->up[w] = x;
-                    rooted->above[w] = v;
-                    rooted->depth[w] = rooted->depth[v] + 1;
-                    rooted->tree[w] = root;
-                    bodies |= bit(w);
-                    found[tail++] = w;
-                }
-            }
-            rooted->bodies[root] = bodies;
-            rest ^= bodies & rest;
-        }
-    }
+    struct ends ends;
+    gather(book, &ends);
+    for (int i = 0; i < book->a + book->b; i++)
+        for (uint64_t rest = all_bodies(book); rest;)
+            rest &= ~grow(book, i, &ends, __builtin_ctzll(rest));
 }
 
 /* ---- search and shift, by the rule of request #105 */
 
 struct search {
-    uint16_t queue[MOST_EDGES + 1]; /* the edges reached, in the order in which they wait; first the new one */
-    uint16_t from[MOST_EDGES + 1];  /* the place of the edge that reached them */
-    uint64_t seen[WORDS];           /* the same edges but for the new one, one bit each */
+    uint16_t queue[MOST_KEPT + 1];    /* the edges reached, in the order in which they wait; first the new one */
+    uint16_t from[MOST_KEPT + 1];     /* the place of the edge that reached them */
+    uint64_t unreached[MOST_FORESTS]; /* a bit for each body whose edge up was not reached yet, and for roots */
+    uint64_t reached[WORDS];          /* the edges reached but for the new one, one bit each */
+    uint64_t marked[WORDS];           /* nothing, but while edges are being put in order */
     int tail;
-    int place, forest; /* where the search ended: a place of the queue, and the forest in which its edge is free */
-#ifdef PLAIN_JUMP
-    uint8_t to[MOST_FORESTS][MOST_BODIES];
-#endif
+    int place, forest; /* where the search ended: a place of the queue, and the forest in which its edge is free, from 1 */
 };
 
-/* marks edge x, and lets it wait in number order among those from place `first` on, unless it was reached before */
-static void reach(struct search *s, int first, int head, int x)
+/* the first forest, from 1, in which edge x may stand and its ends are not joined; 0 where there is none. A whole row of names is
+ * compared at once, since mostly there is none */
+static int free_forest(const struct book *book, int x)
 {
-    if (s->seen[x >> 6] & bit(x))
+    const uint8_t *one = book->tree[book->one[x]], *other = book->tree[book->other[x]];
+    uint64_t names, others, permitted;
+    memcpy(&names, one, ROW);
+    memcpy(&others, other, ROW);
+    memcpy(&permitted, book->permitted[book->limit[x]], ROW);
+    if (!((names ^ others) & permitted))
+        return 0;
+    int i = 0;
+    while (one[i] == other[i])
+        i++;
+    return i + 1;
+}
+
+static void wait_behind(struct search *s, int x, int head)
+{
+    s->from[s->tail] = head;
+    s->queue[s->tail++] = x;
+}
+
+/* Lets the edges up from these bodies wait, smallest number first. Paths may be long: a bit for each edge puts them in order with
+ * no edge being moved. */
+static void wait_in_order(struct search *s, const uint16_t *up, uint64_t bodies, int head)
+{
+    unsigned words = 0;
+    for (; bodies; bodies &= bodies - 1) {
+        int x = up[__builtin_ctzll(bodies)];
+        s->marked[x >> 6] |= bit(x);
+        words |= 1u << (x >> 6);
+    }
+    for (; words; words &= words - 1) {
+        int w = __builtin_ctz(words);
+        s->reached[w] |= s->marked[w];
+        for (uint64_t left = s->marked[w]; left; left &= left - 1)
+            wait_behind(s, w * 64 + __builtin_ctzll(left), head);
+        s->marked[w] = 0;
+    }
+}
+
+/* reaches the edges up from these bodies */
+static void reach(struct search *s, const uint16_t *up, uint64_t bodies, int head)
+{
+    if (bodies & (bodies - 1)) {
+        wait_in_order(s, up, bodies, head);
         return;
-    s->seen[x >> 6] |= bit(x);
-    int at = s->tail++;
-    s->from[at] = head;
-    while (at > first && s->queue[at - 1] > x) {
-        s->queue[at] = s->queue[at - 1];
-        at--;
     }
-    s->queue[at] = x;
+    int x = up[__builtin_ctzll(bodies)];
+    s->reached[x >> 6] |= bit(x);
+    wait_behind(s, x, head);
 }
 
-#ifndef PLAIN_JUMP
-
-/* reaches the edges on the path from u to v in forest i */
-static void climb(const struct book *book, int i, struct search *s, int head, int u, int v)
+/* Whether the search ends with an edge that waits from place `first` on. The first edge of the queue that is free ends it when its turn
+ * comes, whatever those before it would reach till then: so it ends here and now. */
+static int ends(const struct book *book, struct search *s, int first)
 {
-    const struct forest *f = &book->rooted[i - 1];
-    int first = s->tail;
-    while (f->depth[u] > f->depth[v]) {
-        reach(s, first, head, f->up[u]);
-        u = f->above[u];
-    }
-    while (f->depth[v] > f->depth[u]) {
-        reach(s, first, head, f->up[v]);
-        v = f->above[v];
-    }
-    while (u != v) {
-        reach(s, first, head, f->up[u]);
-        reach(s, first, head, f->up[v]);
-        u = f->above[u];
-        v = f->above[v];
-    }
-}
-
-#else
-
-/* A variant for measuring, not the baseline: climbing jumps over edges that were reached before. At each body of each forest
- * stands a body that is above it, or itself, with none but reached edges between. */
-static int jump(uint8_t *to, int v)
-{
-    while (to[v] != v) {
-        to[v] = to[to[v]];
-        v = to[v];
-    }
-    return v;
-}
-
-static void climb(const struct book *book, int i, struct search *s, int head, int u, int v)
-{
-    const struct forest *f = &book->rooted[i - 1];
-    uint8_t *to = s->to[i - 1];
-    int first = s->tail;
-    u = jump(to, u);
-    v = jump(to, v);
-    while (u != v) {
-        if (f->depth[u] < f->depth[v]) {
-            int t = u;
-            u = v;
-            v = t;
+    for (int place = first; place < s->tail; place++)
+        if ((s->forest = free_forest(book, s->queue[place]))) {
+            s->place = place;
+            return 1;
         }
-        reach(s, first, head, f->up[u]);
-        to[u] = f->above[u];
-        u = jump(to, u);
-    }
+    return 0;
 }
 
-#endif
+static void start(struct search *s, int x)
+{
+    s->queue[0] = x;
+    s->tail = 1;
+    memset(s->unreached, 0xff, sizeof s->unreached);
+    memset(s->reached, 0, sizeof s->reached);
+    memset(s->marked, 0, sizeof s->marked);
+}
 
-/* whether a free edge was found for the edge that stands behind the last one of the book */
+/* Whether a free edge was found for the edge that stands behind the last one of the book. An edge need not pass over its own forest:
+ * the path there is the edge itself, which is reached. */
 static int search(const struct book *book, struct search *s)
 {
-    memset(s->seen, 0, sizeof s->seen);
-#ifdef PLAIN_JUMP
-    for (int f = 0; f < MOST_FORESTS; f++)
-        for (int v = 0; v < MOST_BODIES; v++)
-            s->to[f][v] = v;
-#endif
-    s->queue[0] = book->edges;
-    s->tail = 1;
+    start(s, book->edges);
+    if (ends(book, s, 0))
+        return 1;
     for (int head = 0; head < s->tail; head++) {
-        int x = s->queue[head], limit = book->limit[x], own = book->forest[x];
-        int u = book->one[x], v = book->other[x];
-        for (int i = 1; i <= limit; i++) {
-            if (i == own)
+        int x = s->queue[head], limit = book->limit[x];
+        const uint64_t *one = book->way[book->one[x]], *other = book->way[book->other[x]];
+        for (int i = 0; i < limit; i++) {
+            uint64_t fresh = (one[i] ^ other[i]) & s->unreached[i];
+            if (!fresh)
                 continue;
-            if (book->rooted[i - 1].tree[u] != book->rooted[i - 1].tree[v]) {
-                s->place = head;
-                s->forest = i;
+            int first = s->tail;
+            s->unreached[i] ^= fresh;
+            reach(s, book->rooted[i].up, fresh, head);
+            if (ends(book, s, first))
                 return 1;
-            }
-            climb(book, i, s, head, u, v);
         }
     }
     return 0;
@@ -269,18 +276,18 @@ static int search(const struct book *book, struct search *s)
 /* each edge on the way takes the forest of the next one, the last one the forest found. How many moved, the new one apart */
 static int shift(struct book *book, const struct search *s)
 {
-    uint16_t way[MOST_EDGES];
+    uint16_t way[MOST_KEPT];
     int moved = 0;
     for (int place = s->place; place; place = s->from[place])
         way[moved++] = s->queue[place];
     int x = book->edges;
     for (int i = moved; i--;) {
         int y = way[i];
-        swap(&book->rooted[book->forest[y] - 1], book->one[x], book->other[x], x, book, y);
+        swap(book, book->forest[y] - 1, x, y);
         book->forest[x] = book->forest[y];
         x = y;
     }
-    join(&book->rooted[s->forest - 1], book->one[x], book->other[x], x);
+    join(book, s->forest - 1, x);
     book->forest[x] = s->forest;
     return moved;
 }
@@ -289,7 +296,7 @@ static int list(const struct search *s, uint16_t *circuit)
 {
     int length = 0;
     for (int w = 0; w < WORDS; w++)
-        for (uint64_t left = s->seen[w]; left; left &= left - 1)
+        for (uint64_t left = s->reached[w]; left; left &= left - 1)
             circuit[length++] = w * 64 + __builtin_ctzll(left) + 1;
     return length;
 }
@@ -302,12 +309,15 @@ int plain_open(struct book *book, int a, int b, int n)
         return 1;
     if (n < 1 || n > MOST_BODIES)
         return 2;
-    memset(book, 0, sizeof *book);
     book->a = a;
     book->b = b;
     book->n = n;
-    for (int f = 0; f < a + b; f++)
-        clear(&book->rooted[f], n);
+    book->edges = book->kept = 0;
+    memset(book->tree, 0, sizeof book->tree);
+    memset(book->permitted, 0, sizeof book->permitted);
+    memset(book->permitted[a], 0xff, a);
+    memset(book->permitted[a + b], 0xff, a + b);
+    plain_root(book);
     return 0;
 }
 

@@ -1,10 +1,11 @@
 /* The plain baseline: the dependency step in C, with no proofs.
  *
- * Forests are rooted: every body knows the body above it, the edge that leads there, how deep it hangs and which tree it is
- * in. A path is found by climbing from both ends. An edge that finds no place at once is placed by breadth-first exchange,
- * by the rule of request #105, so that forests and moved are fixed and may be compared.
+ * Forests are rooted: every body knows the body above it, the edge that leads there, which bodies are on its way up and which
+ * tree it is in. No more than 64 bodies means that a way is one word, and a path is what is in one of two ways and not in the
+ * other. An edge that finds no place at once is placed by breadth-first exchange, by the rule of request #105, so that forests
+ * and moved are fixed and may be compared.
  *
- * The calls count bodies and edges from 1, as document 01 does. The arrays count from 0.
+ * The calls count bodies and edges from 1, as document 01 does. The arrays count from 0, forests too.
  */
 #ifndef PLAIN_H
 #define PLAIN_H
@@ -27,9 +28,10 @@ struct forest {
     uint64_t bodies[MOST_BODIES]; /* by tree: the bodies in it, one bit each */
     uint16_t up[MOST_BODIES];     /* by body: the edge to the body above, or NO_EDGE */
     uint8_t above[MOST_BODIES];   /* by body: the body above; anything at a root */
-    uint8_t depth[MOST_BODIES];   /* by body: how many edges up to the root */
-    uint8_t tree[MOST_BODIES];    /* by body: a name of its tree, the same for all bodies of the tree */
+    uint8_t size[MOST_BODIES];    /* by tree: how many bodies are in it */
 };
+
+enum { ROW = 8 }; /* a place for each forest and two more, so that a row of names is one word */
 
 struct book {
     int a, b, n;
@@ -40,6 +42,10 @@ struct book {
     uint8_t limit[MOST_EDGES + 1];  /* the edge may stand in forests 1 to limit */
     uint8_t forest[MOST_EDGES + 1]; /* 0 where the edge is implied */
     struct forest rooted[MOST_FORESTS];
+    /* by body, the forests side by side, since a search asks an edge about all of them */
+    uint64_t way[MOST_BODIES][ROW]; /* the bodies on the way up, one bit each: itself too, the root not */
+    uint8_t tree[MOST_BODIES][ROW]; /* a name of its tree, the same for all bodies of the tree */
+    uint8_t permitted[MOST_FORESTS + 1][ROW]; /* by limit: 255 in the places of the forests up to it, 0 in the others */
 };
 
 /* 0, or the reason */

@@ -55,16 +55,35 @@ static void line(const char *key, int x)
     out[filled++] = '\n';
 }
 
+/* Each edge number with a comma, and how many bytes that takes. A heavy book has 50,000 numbers in its circuits, so that they are
+ * spelled once and copied, four bytes each whatever their length. */
+static char spelled[MOST_EDGES + 1][4];
+static uint8_t spelled_bytes[MOST_EDGES + 1];
+
+static void spell(void)
+{
+    for (int x = 1; x <= MOST_EDGES; x++) {
+        filled = 0;
+        number(x);
+        out[filled++] = ',';
+        memcpy(spelled[x], out, 4);
+        spelled_bytes[x] = filled;
+    }
+    filled = 0;
+}
+
+/* a circuit is never empty: the comma after its last number becomes the end of the line */
 static void circuit_line(const uint16_t *circuit, int length)
 {
     make_room();
     word("implied=");
+    char *to = out + filled;
     for (int i = 0; i < length; i++) {
-        if (i)
-            out[filled++] = ',';
-        number(circuit[i]);
+        memcpy(to, spelled[circuit[i]], 4);
+        to += spelled_bytes[circuit[i]];
     }
-    out[filled++] = '\n';
+    to[-1] = '\n';
+    filled = to - out;
 }
 
 /* ---- input */
@@ -228,6 +247,7 @@ int main(int count, char **arguments)
         number(line_number);
         word("\n");
     } else {
+        spell();
         plain_open(&book, a, b, bodies);
         if (count > 1 && !strcmp(arguments[1], "certificate"))
             certificate(length);
