@@ -6,11 +6,11 @@ use mathlib.Core.List.{[], _∷_}
 use Prim.Native.Nat.{ℕ, suc, _-_, _≤_}
 use native.Mathlib.Omega.{arith}
 use lib.ListN.{getD}
+use Rattle.rule.specs.Books.{edgeOf}
 use Rattle.rule.specs.declared.Book.{Book}
 use Rattle.rule.specs.Sets.{at}
 use Rattle.text.specs.Lines.{line, key-a, key-b, key-bodies, key-edges}
 use Rattle.text.specs.Sheets.{edgeText}
-use Rattle.pages.specs.Reads.{edgeOf}
 use Rattle.pages.specs.Reports.{bookLine}
 
 module _ (B : Book) (i : ℕ) where

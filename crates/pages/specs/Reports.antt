@@ -14,13 +14,12 @@ use Rattle.rule.specs.declared.Reason.{Reason}
 use Rattle.rule.specs.Sets.{Is, Set, count}
 use Rattle.rule.specs.Legal.{Design, k, Circuit}
 use Rattle.rule.specs.Figures.{freedom, dropped, verdict, Groups}
-use Rattle.rule.specs.Books.{designOf, forestOf}
+use Rattle.rule.specs.Books.{edgeOf, designOf, forestOf}
 use Rattle.rule.specs.Reasons.{numberOf}
 use Rattle.text.specs.Lines.{LF, line, key-a, key-b, key-bodies, key-edges}
 use Rattle.text.specs.Sheets.{edgeText}
 use Rattle.pages.specs.Keys.{key-kept, key-implied, key-free, key-dropped, key-verdict, key-groups, key-forest, key-refused, wordOf}
 use Rattle.pages.specs.Sections.{Section, Exactly, inOrder, forEach, LineIn}
-use Rattle.pages.specs.Reads.{edgeOf}
 
 -- ---- the line of an edge
 

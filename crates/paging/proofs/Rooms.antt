@@ -15,7 +15,7 @@ use Rattle.rule.specs.declared.Book.{Book}
 use Rattle.rule.specs.Sets.{Set, at}
 use Rattle.rule.specs.Legal.{Design}
 use Rattle.rule.specs.Figures.{verdict, Groups}
-use Rattle.rule.specs.Books.{designOf, keptOf, Sound}
+use Rattle.rule.specs.Books.{edgeOf, designOf, keptOf, Sound}
 use Rattle.theory.proofs.Legal.Sound.{sound-head, sound-edge}
 use Rattle.text.specs.Lines.{LF, comma, numeral, listed, line, key-a, key-b, key-bodies, key-edges}
 use Rattle.text.specs.Sheets.{edgeText}
@@ -24,11 +24,9 @@ use Rattle.lines.proofs.Sizes.{Numbers, numeral-at-most-20, line-not-empty, num
 use Rattle.pages.specs.declared.Received.{Received}
 use Rattle.pages.specs.Keys.{key-verdict, key-groups, wordOf}
 use Rattle.pages.specs.Sections.{Exactly, Nth}
-use Rattle.pages.specs.Reads.{edgeOf}
 use Rattle.pages.specs.Reports.{ImpliedLine, EdgeLine, GroupsLine, figures, reportLines, ReportLine, bookLine, bookText, ForestLine, certificateLines, CertificateLine, refusedLine}
 use Rattle.pages.specs.Steps.{LineOf, lineRoom}
 use Rattle.pages.proofs.Sections.{Has, nth-has, line-has}
-use Rattle.pages.proofs.Edges.{rule-range}
 use Rattle.paging.specs.declared.Kind.{Kind}
 use Rattle.paging.specs.Kinds.{formOf}
 
@@ -70,7 +68,7 @@ module _ (B : Book) (sound : Sound B) where
   book-line-room (suc (suc zero)) places less room = small-line-room key-bodies (B .n) places (omega arith) (omega (arith, sound-head B sound .bodies .high)) room
   book-line-room (suc (suc (suc zero))) places less room = small-line-room key-edges (B .count) places (omega arith) (sound-head B sound .edges) room
   book-line-room (suc (suc (suc (suc e)))) places less room =
-      let range = rule-range B (suc e) (sound-edge B sound (suc e) (omega arith)) in
+      let range = sound-edge B sound (suc e) (omega arith) .range in
       omega (arith, room, edge-length (B .n) (edgeOf B (suc e)) (sound-head B sound .bodies) range)
 
 -- ---- no line is empty

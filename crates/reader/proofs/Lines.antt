@@ -9,10 +9,11 @@ use native.Mathlib.Omega.{arith}
 use lib.ListN.{length}
 use Rattle.rule.specs.declared.Book.{Book}
 use Rattle.rule.specs.declared.Answer.{Answer}
-use Rattle.rule.specs.Books.{ProfileRange, BodiesRange, capacity}
+use Rattle.rule.specs.Books.{Edge, ProfileRange, BodiesRange, capacity}
 use Rattle.rule.specs.Reasons.{Pass, offerChecks}
 use Rattle.rule.specs.Calls.{newBook}
-use Rattle.text.specs.Sheets.{Edge, SheetRange, textOf}
+use Rattle.rule.proofs.Passed.{offer-passes}
+use Rattle.text.specs.Sheets.{SheetRange, textOf}
 use Rattle.text.specs.EdgeLists.{EdgeLists, Roomy, EdgesEntered, edgeIn, edgesIn, sheetIn}
 use Rattle.text.specs.Judgements.{IsSheet}
 use Rattle.text.proofs.Lists.{entered-roomy, edge-in-range, edges-in-length, entered-sheet}
@@ -36,25 +37,26 @@ module _ {given : EdgeLists} {m : ℕ} {B : Book} {root way who edge size : List
   abbrev due : Edge
   due = edgeIn given (B .count)
 
-  due-passes : (list : List ℕ) → 378 ≤ length list → Pass (offerChecks B (due .one) (due .other) (due .colour) list)
+  due-passes : (list : List ℕ) → 378 ≤ length list → Pass (offerChecks B due list)
   due-passes list long =
-      let e = edge-in-range given (B .n) m (B .count) (r .edges) more in (
-        g .sound,
-        (e .colour, ((e .one, e .other), (e .different, (long, (omega (arith, more, lists-few m given r), tt))))),
-      )
+      offer-passes B due list
+      (record {
+        asked = record { sound = g .sound; range = edge-in-range given (B .n) m (B .count) (r .edges) more; room = long };
+        space = omega (arith, more, lists-few m given r);
+      })
 
-  pub due-takeable : (list : List ℕ) → 378 ≤ length list → Takeable B (due .one) (due .other) (due .colour) list root way who edge size
+  pub due-takeable : (list : List ℕ) → 378 ≤ length list → Takeable B due list root way who edge size
   due-takeable list long = record { checked = due-passes list long; ready = g .ready }
 
   -- it has been taken
   pub grows : (after : Book) (list listed root′ way′ who′ edge′ size′ : List ℕ) (answer : Answer) → 378 ≤ length list
       → newBook (after .a) (after .b) (after .n) ≡ newBook (B .a) (B .b) (B .n) → after .count ≡ suc (B .count)
-      → Takes B after (due .one) (due .other) (due .colour) list listed root′ way′ who′ edge′ size′ answer
+      → Takes B after due list listed root′ way′ who′ edge′ size′ answer
       → Growing given after root′ way′ who′ edge′ size′
   unfolding edgesIn
   grows after list listed root′ way′ who′ edge′ size′ answer long same counts t =
       let old : Grew B = record { sound = g .sound; grown = g .grown; full = g .ready .full } in
-      let new = offer-grew (due .one) (due .other) (due .colour) list listed answer (t .offer) old in
+      let new = offer-grew due list listed answer (t .offer) old in
       let one-more : Offers (newBook (B .a) (B .b) (B .n)) (edgesIn given (suc (B .count))) after =
       then due list listed answer (g .offers) (due-passes list long) (t .offer) in
       record {

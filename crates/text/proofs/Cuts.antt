@@ -13,13 +13,13 @@ use native.Mathlib.Omega.{arith}
 use lib.ListN.{length, take, length-append}
 use Rattle.rule.specs.declared.Reason.{Reason}
 use Rattle.rule.specs.Reasons.{Pass}
-use Rattle.rule.specs.Books.{capacity}
+use Rattle.rule.specs.Books.{Edge, capacity}
 use Rattle.grammar.specs.Grammar.{faultIn}
 use Rattle.grammar.specs.Grammar.Leads.{here, one-line}
 use Rattle.grammar.proofs.Cuts as grammar
 use Rattle.grammar.proofs.Cuts.{Bounded}
 use Rattle.text.specs.Lines.{comma, numeral, listed, line, key-a, key-b, key-bodies, key-edges}
-use Rattle.text.specs.Sheets.{Edge, keyOf, edgeText}
+use Rattle.text.specs.Sheets.{keyOf, edgeText}
 use Rattle.text.specs.Due.{Said, nothing, to-a, to-b, to-bodies, to-edges, linesOf, Written, due, Ended, bookText}
 use Rattle.text.specs.Faults.{Leads, Fault, FirstFault, RefusedAt}
 use Rattle.text.proofs.Numerals.{numeral-few}

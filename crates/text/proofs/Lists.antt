@@ -11,12 +11,12 @@ use native.Mathlib.Omega.{arith}
 use lib.ListN.{length, getD, take, drop, set, length-map, length-append, List·getD-append, List·getD-map}
 use lib.Seq.{take-suc, take-length}
 use Rattle.rule.specs.declared.Reason.{Reason}
-use Rattle.rule.specs.Books.{capacity}
+use Rattle.rule.specs.Books.{EdgeRange, Edge, capacity}
 use Rattle.rule.specs.Calls.{Filled}
 use Rattle.rule.proofs.Tests.{by-le}
 use Rattle.text.specs.declared.Judgement.{Judgement}
 use Rattle.text.specs.Puts.{Writes}
-use Rattle.text.specs.Sheets.{Edge, Sheet, EdgeRange, EdgesRange}
+use Rattle.text.specs.Sheets.{Sheet, EdgesRange}
 use Rattle.text.specs.Faults.{RefusedAt}
 use Rattle.text.specs.EdgeLists.{EdgeLists, Roomy, EdgeEntered, EdgesEntered, blank, edgeIn, edgesIn, sheetIn}
 use Rattle.text.specs.Judgements.{IsSheet, Enters}

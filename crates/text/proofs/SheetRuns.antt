@@ -8,10 +8,10 @@ use mathlib.Core.List.{List, [], _∷_, _++_, append-assoc, append-nil}
 use Prim.Native.Nat.{ℕ, _+_, _≤_}
 use native.Mathlib.Omega.{arith}
 use lib.ListN.{length, length-append}
-use Rattle.rule.specs.Books.{ProfileRange, BodiesRange, capacity}
+use Rattle.rule.specs.Books.{EdgeRange, Edge, ProfileRange, BodiesRange, capacity}
 use Rattle.rule.specs.Reasons.{Pass}
 use Rattle.text.specs.Lines.{line, key-a, key-b, key-bodies, key-edges}
-use Rattle.text.specs.Sheets.{Edge, Sheet, EdgeRange, EdgesRange, SheetRange, edgeText, edgesText, headText, textOf}
+use Rattle.text.specs.Sheets.{Sheet, EdgesRange, SheetRange, edgeText, edgesText, headText, textOf}
 use Rattle.text.specs.Due.{Said, nothing, to-a, to-b, to-bodies, to-edges, FirstRange, due, Ended}
 use Rattle.text.proofs.Ranges.{first-small, second-small, profile-first}
 use Rattle.grammar.specs.Grammar.{Next}

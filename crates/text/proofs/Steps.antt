@@ -10,7 +10,7 @@ use native.Mathlib.Omega.{arith}
 use lib.ListN.{length, length-append}
 use Rattle.rule.specs.declared.Reason.{Reason}
 use Rattle.rule.specs.declared.Reason.the-variants.{Profile, Bodies, Body, SameBody, Full}
-use Rattle.rule.specs.Books.{capacity}
+use Rattle.rule.specs.Books.{Edge, capacity}
 use Rattle.rule.specs.Reasons.{numberOf, placeOf, Check, plain}
 use Rattle.rule.proofs.Tests.{by-le, by-eq}
 use Rattle.rule.proofs.Determined.{Single, nothing-single}
@@ -21,7 +21,6 @@ use Rattle.text.specs.declared.EdgeLine.the-variants.{Joins}
 use Rattle.grammar.specs.Grammar.{Next}
 use Rattle.grammar.proofs.Outcomes.{LineAt, is-due, is-other, Determined, PassOrFail, passes, fail, Lawful}
 use Rattle.text.specs.Lines.{key-a, key-b, key-bodies, key-edges}
-use Rattle.text.specs.Sheets.{Edge}
 use Rattle.text.specs.Due.{Said, nothing, to-a, to-b, to-bodies, to-edges, linesOf, numberLine, edgeLine, due, Ended, bookText}
 use Rattle.text.specs.Readings.{readNumberLine, readEdge}
 use Rattle.text.proofs.Ranges.{le-dec, in-dec, both-dec, first-dec, profile-dec}

@@ -9,7 +9,7 @@ use mathlib.Core.List.{List, [], _∷_, _++_}
 use Prim.Native.Nat.{ℕ, _+_, _≤_, _<_}
 use native.Mathlib.Omega.{arith}
 use lib.ListN.{length, drop, length-append, length-drop, drop-of-length-le}
-use Rattle.rule.specs.Books.{Edge}
+use Rattle.rule.specs.Books.{EdgeRange, Edge}
 use Rattle.rule.specs.declared.Reason.{Reason}
 use Rattle.rule.specs.declared.Reason.the-variants.{Body, SameBody, Line}
 use Rattle.rule.specs.Sets.{In}
@@ -21,7 +21,6 @@ use Rattle.text.specs.declared.EdgeLine.the-variants.{Joins}
 use Rattle.text.specs.declared.Judgement.{Judgement}
 use Rattle.text.specs.declared.Step.{Step}
 use Rattle.text.specs.declared.Step.the-variants.{On}
-use Rattle.text.specs.Sheets.{Edge, EdgeRange}
 use Rattle.text.specs.Due.{to-edges, linesOf, edgeLine, due}
 use Rattle.grammar.specs.Grammar.{AtFault}
 use Rattle.grammar.specs.Grammar.AtFault.{other, fails}

@@ -6,9 +6,9 @@ use mathlib.Core.Path.{_≡_}
 use mathlib.Core.List.{List, [], _∷_, _++_, map}
 use Prim.Native.Nat.{ℕ, zero, suc}
 use lib.ListN.{length, getD, set}
-use Rattle.rule.specs.Books.{capacity}
+use Rattle.rule.specs.Books.{Edge, capacity}
 use Rattle.rule.specs.Calls.{Filled}
-use Rattle.text.specs.Sheets.{Edge, Sheet}
+use Rattle.text.specs.Sheets.{Sheet}
 
 pub record EdgeLists : Type 0 where
   pub ones : List ℕ

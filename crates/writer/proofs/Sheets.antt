@@ -10,14 +10,13 @@ use Prim.Native.Nat.{ℕ, zero, suc, _+_, _≤_}
 use native.Mathlib.Omega.{arith}
 use lib.ListN.{length, length-append}
 use Rattle.rule.specs.declared.Book.{Book}
-use Rattle.rule.specs.Books.{Obeys, Sound}
+use Rattle.rule.specs.Books.{Edge, edgeOf, EdgeRange, Obeys, Sound}
 use Rattle.theory.proofs.Legal.Sound.{sound-head}
-use Rattle.text.specs.Sheets.{EdgeRange, EdgesRange, SheetRange, edgeText, edgesText, headText, textOf, textRoom}
+use Rattle.text.specs.Sheets.{EdgesRange, SheetRange, edgeText, edgesText, headText, textOf, textRoom}
 use Rattle.text.proofs.SheetRuns.{edges-text-append}
 use Rattle.text.proofs.Sizes.{sheet-size}
-use Rattle.pages.specs.Reads.{edgeOf, edgesOf, sheetOf}
+use Rattle.pages.specs.Reads.{edgesOf, sheetOf}
 use Rattle.pages.specs.Reports.{bookLine, bookText}
-use Rattle.pages.proofs.Edges.{rule-range}
 use Rattle.lines.proofs.Rounds.{Pieces}
 
 -- ---- the edges as a list
@@ -44,7 +43,7 @@ edges-range : (B : Book) → Sound B → (m : ℕ) → m ≤ B .count → EdgesR
 unfolding edgesOf Sound Obeys
 edges-range B sound zero h = tt
 edges-range B sound (suc m) h =
-    edges-range-snoc (B .n) (edgesOf B m) (edgeOf B (suc m)) (edges-range B sound m (omega arith)) (rule-range B (suc m) (sound (suc m) h))
+    edges-range-snoc (B .n) (edgesOf B m) (edgeOf B (suc m)) (edges-range B sound m (omega arith)) (sound (suc m) h .range)
 
 -- The sheet of a sound book is in range.
 pub sound-sheet-range : (B : Book) → Sound B → SheetRange (sheetOf B)

@@ -3,7 +3,8 @@ use borrow.Author.Needs.{needs}
 use native.Mathlib.Omega.{arith}
 use mathlib.Core.Path.{sym, ap}
 use lib.ListN.{length}
-use Rattle.text.specs.Sheets.{Edge, edgeText}
+use Rattle.rule.specs.Books.{Edge}
+use Rattle.text.specs.Sheets.{edgeText}
 use Rattle.text.proofs.Overwrites.{writes-as}
 use Rattle.lines.proofs.BookLines.{edge-held}
 use Rattle.lines.proofs.given_line.Statement.{statement}
