@@ -84,7 +84,7 @@ fn taken(value: usize, used: usize) -> Reading
 }
 
 // The number of at most `most` digits that `s` begins with. After a leading zero no digit belongs to it.
-fn number(s: &[u8], most: usize) -> Reading
+pub fn number(s: &[u8], most: usize) -> Reading
     requires { ⌜ most ≤ 5 ⌝ }
     ensures { λ r. ⌜ r ≡ readNumber most (now (s .entry)) ⌝ }
 {
