@@ -1,6 +1,7 @@
 // For the benchmark: builds the book of a text again and again. Standard input has a letter, four digits and a LF, and then a book text: after k
 // the text is read so many times, with the tables kept between offers; after o it is read once, and then so many times every edge of the book
-// goes through the public offer to a new one, which scans that first; after t the text is only judged, so many times, and its edges are entered in lists. What is printed is a sum over the books, so that the work cannot be left out.
+// goes through the public offer to a new one, which scans that first; after t the text is so many times judged and its edges entered in lists,
+// and none is offered. What is printed is a sum over the books, so that the work cannot be left out.
 ghost use Prim.Native.Nat.{_≤_, _<_};
 use rule::Book;
 use text::Judgement;
@@ -72,7 +73,7 @@ fn look(text: &[u8]) -> usize
             b: _,
             n: _,
             edges: _,
-        } => wide(ones[0]) * 10 + wide(others[200]),
+        } => wide(ones[0]) * 9 + wide(others[200]) + wide(colours[100]),
         Judgement::Refused(_, _) => 0,
     }
 }
