@@ -1,4 +1,5 @@
--- The answers of `judge` and `fault` are determined. Not here: the edges of the lists that `find` leaves (proofs/Lists.antt).
+-- The answers of `judge` and `fault` are determined, since a text has one outcome (Outcomes.antt): one sheet, or one first fault.
+-- Not here: the edges of the lists that `find` leaves (Lists.antt).
 -- Assumes nothing.
 use mathlib.Core.Path.{_≡_, refl, sym, ap, ap₂, _∙_, subst}
 use mathlib.Core.Logic.{inl, inr}

@@ -1,5 +1,6 @@
 -- Every list of bytes is the text of exactly one sheet in range, or it has exactly one first fault, and never both: the theorem of crate
--- grammar for book text, whose whole texts are those of sheets in range (proofs/SheetRuns.antt).
+-- grammar for book text, whose whole texts are those of sheets in range.
+-- Not here: that book text is lawful (Steps.antt); a sheet in range and a text read to its end (SheetRuns.antt).
 -- Assumes nothing.
 use mathlib.Core.Path.{_≡_, sym, subst}
 use mathlib.Core.Logic.{_⊎_, inl, inr}

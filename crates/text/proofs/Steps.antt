@@ -1,6 +1,7 @@
 -- Book text is a lawful grammar: a line is the one due or it is not, its checks pass or one fails, and what it says is determined.
 --
--- In order: each kind of line that is due (specs/Due.antt) is decided and determined; each due line is; its checks are; so is the end.
+-- In order: each kind of line that is due (specs/Due.antt) is decided and determined; each due line is, and counts as one; its checks are; so is the end.
+-- Not here: what follows of any lawful grammar (crate grammar, proofs/Outcomes.antt).
 -- Assumes nothing.
 use mathlib.Core.Path.{_≡_, refl, sym, ap, _∙_}
 use mathlib.Core.Logic.{inl, inr}

@@ -48,10 +48,11 @@ pub record Enters (text : List ℕ) (before after : EdgeLists) (found : Judgemen
   pub judges : Judges text found
   pub entered : (s : Sheet) → SheetRange s → text ≡ textOf s → EdgesEntered (s .edges) before after
 
--- the first fault of the text is in this line, and begins at this place
+-- the first fault of the text is in this line
 abbrev pub LineRefused : List ℕ → (line : ℕ) → Type 0
 LineRefused text line = (f : Fault) × FirstFault text f × (line ≡ f .line)
 
+-- and there it begins
 abbrev pub LineBegins : List ℕ → (line at : ℕ) → Type 0
 LineBegins text line at = (f : Fault) × FirstFault text f × (line ≡ f .line) × (at ≡ f .start)
 

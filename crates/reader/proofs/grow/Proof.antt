@@ -1,4 +1,4 @@
--- `reader::grow`: after each turn the book has been offered one edge more (proofs/Lines.antt).
+-- `reader::grow`: after each turn the book has been offered one edge more (proofs/Lines.antt). Assumes nothing.
 use borrow.Author.Needs.{needs}
 use native.Mathlib.Omega.{arith}
 use native.Mathlib.Numerals.{add-one}

@@ -1,4 +1,4 @@
--- `reader::read`: what `find` finds, and the book that grows from the lists that it leaves (proofs/Lines.antt).
+-- `reader::read`: what `find` finds, and the book that grows from the lists that it leaves (proofs/Lines.antt). Assumes nothing.
 use borrow.Author.Needs.{needs}
 use mathlib.Core.Path.{refl, subst}
 use Rattle.text.specs.Judgements.{Judges}
