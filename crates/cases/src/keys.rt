@@ -1,11 +1,19 @@
 // Lines of a key and its numbers, with commas between. A program names its keys in a table: eight bytes for each, the key with spaces behind it and then
 // the number of numbers that are due. No two keys begin with the same letter, which stands for the key.
-ghost use Prim.Native.Nat.{_≤_, _<_};
-ghost use lib.ListN.{length};
 use crate::byte;
 use text::Reading;
 
-// A key that was found: its first letter, or 0; the place past it; and how many numbers are due there.
+// What a line says: the letter of its key, or 0 where the line is not understood, and its numbers, with zeros behind them.
+pub struct Told {
+    pub letter: u8,
+    pub one: usize,
+    pub two: usize,
+    pub three: usize,
+    pub four: usize,
+    pub five: usize,
+}
+
+// A key that was found: its letter, or 0; the place past it; and how many numbers are due there.
 struct Found {
     letter: u8,
     past: usize,
@@ -76,40 +84,54 @@ fn number_at(line: &[u8], at: usize, stop: u8) -> Reading {
     Reading::Nothing
 }
 
-fn put(list: &mut [usize], i: usize, x: usize) {
-    if i < list.len() {
-        list[i] = x;
+fn only(letter: u8) -> Told {
+    Told {
+        letter: letter,
+        one: 0,
+        two: 0,
+        three: 0,
+        four: 0,
+        five: 0,
     }
 }
 
-// Whether so many numbers stand at a place of a line, and then the line's end: they are put into the list.
-fn numbers(line: &[u8], from: usize, due: usize, list: &mut [usize]) -> bool {
-    let mut at = from;
+fn with(told: Told, i: usize, x: usize) -> Told {
+    let mut next = told;
+    match i {
+        0 => next.one = x,
+        1 => next.two = x,
+        2 => next.three = x,
+        3 => next.four = x,
+        _ => next.five = x,
+    }
+    next
+}
+
+// The key's numbers, and then the line's end.
+fn numbers(line: &[u8], found: Found) -> Told {
+    let due = found.numbers;
+    let mut told = only(found.letter);
+    let mut at = found.past;
     let mut i = 0;
     while i < due {
         let next = i + 1;
         let r = number_at(line, at, if next < due { b',' } else { b'\n' });
         let Reading::Value(value, past) = r else {
-            return false;
+            return only(0);
         };
-        put(list, i, value);
+        told = with(told, i, value);
         at = past;
         i = next;
     }
-    true
+    told
 }
 
-// The letter of a line's key, its numbers put into the list; 0 where the line is not understood.
-pub fn read(table: &[u8], line: &[u8], list: &mut [usize]) -> u8 {
+pub fn read(table: &[u8], line: &[u8]) -> Told {
     let found = key_in(table, line);
     if found.numbers == 0 {
-        if byte(line, found.past) == b'\n' {
-            return found.letter;
+        if byte(line, found.past) != b'\n' {
+            return only(0);
         }
-        return 0;
     }
-    if numbers(line, found.past, found.numbers, list) {
-        return found.letter;
-    }
-    0
+    numbers(line, found)
 }

@@ -1,6 +1,8 @@
 // Files of cases, that programs read from standard input and run one by one. A line `case=` with a name begins a case, and the lines up to the next
-// such line belong to it; what they say is the program's own. Empty lines, and lines that begin with #, say nothing.
+// such line belong to it; what they say is the program's own. Empty lines, and lines that begin with #, say nothing. keys.rt reads lines that name a
+// call and its numbers, say.rt writes what a call answers.
 pub mod keys;
+pub mod say;
 
 ghost use Prim.Native.Nat.{_≤_, _<_};
 ghost use lib.ListN.{length};
@@ -37,7 +39,7 @@ pub fn silent(line: &[u8]) -> bool {
 }
 
 // Whether a line begins with a key.
-pub fn begins(line: &[u8], key: &[u8]) -> bool {
+fn begins(line: &[u8], key: &[u8]) -> bool {
     let mut i = 0;
     while i < key.len() {
         if byte(line, i) != key[i] {
@@ -69,13 +71,13 @@ pub fn write_name(line: &[u8]) {
     let start: usize = 5;
     let end = size(line);
     if start <= end {
-        io::write_all(1, &line[start..end]);
+        say::text(&line[start..end]);
     }
 }
 
 // Writes that a line was not understood, so that a slip of the pen shows: its number in the file, from 1.
 pub fn bad(number: usize) {
-    io::write_all(1, b" bad case, line ");
+    say::text(b" bad case, line ");
     io::print_decimal(1, number as u64);
-    io::write_all(1, b"\n");
+    say::text(b"\n");
 }

@@ -3,7 +3,7 @@
 // are written there, and tests/texts.py reads it too. The file stdout has what document 01 says of them, decided by hand.
 mod lay;
 
-ghost use Prim.Native.Nat.{_≤_};
+use cases::say;
 use lay::Laid;
 use pages::Line;
 use paging::Kind;
@@ -16,18 +16,17 @@ struct Case {
 
 // ---- what is written
 
-fn text(bytes: &[u8]) {
-    io::write_all(1, bytes);
+fn by_number(x: u8) {
+    say::text(b"<");
+    io::print_decimal(1, x as u64);
+    say::text(b">");
 }
 
 fn byte(x: u8) {
-    if 32 <= x && x < 127 {
-        text(&[x]);
-        return;
+    match x {
+        32..=126 => say::text(&[x]),
+        _ => by_number(x),
     }
-    text(b"<");
-    io::print_decimal(1, x as u64);
-    text(b">");
 }
 
 fn part(bytes: &[u8]) {
@@ -40,7 +39,7 @@ fn part(bytes: &[u8]) {
 
 fn front(bytes: &[u8], size: usize) {
     if size <= bytes.len() {
-        text(&bytes[..size]);
+        say::text(&bytes[..size]);
     }
 }
 
@@ -52,15 +51,15 @@ fn first_line(book: &[u8]) {
     let answer = r.answer;
     match answer {
         Line::Written(size) => front(&buffer, size),
-        Line::Over => text(b"over\n"),
-        Line::Refused(_) => text(b"refused\n"),
+        Line::Over => say::text(b"over\n"),
+        Line::Refused(_) => say::text(b"refused\n"),
     }
 }
 
 fn outcome(book: &[u8]) {
-    text(b" [");
+    say::text(b" [");
     part(text::fault(book));
-    text(b"] ");
+    say::text(b"] ");
     first_line(book);
 }
 

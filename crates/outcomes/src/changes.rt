@@ -1,19 +1,20 @@
 // Lines that change the book: calls, with what they answer written, and edits that may damage it.
-use crate::say;
+use cases::keys::Told;
+use cases::say;
 use rule::Book;
 
 // ---- the calls
 
-fn open(n: &[usize; 5]) -> Book {
-    let r = book::open(n[0], n[1], n[2]);
+fn open(n: Told) -> Book {
+    let r = book::open(n.one, n.two, n.three);
     let answer = r.answer;
     say::done(answer);
     r.book
 }
 
-// With any list, and with the answer written or not.
-pub fn offer(book: Book, u: usize, v: usize, colour: usize, list: &mut [u16], loud: bool) -> Book {
-    let r = step::offer(book, u, v, colour, list);
+// The edge from `one` to `two` of colour `three`, with any list, and with the answer written or not.
+pub fn offer(book: Book, n: Told, list: &mut [u16], loud: bool) -> Book {
+    let r = step::offer(book, n.one, n.two, n.three, list);
     let answer = r.answer;
     if loud {
         say::answer(answer, list);
@@ -21,31 +22,36 @@ pub fn offer(book: Book, u: usize, v: usize, colour: usize, list: &mut [u16], lo
     r.book
 }
 
-fn edge_offer(book: Book, u: usize, v: usize, colour: usize, loud: bool) -> Book {
+fn coloured(book: Book, n: Told, colour: usize, loud: bool) -> Book {
     let mut list = [0u16; 378];
-    offer(book, u, v, colour, &mut list, loud)
+    let mut edge = n;
+    edge.three = colour;
+    offer(book, edge, &mut list, loud)
 }
 
 // ---- large books
 
-// So many edges between u and v, of one colour, are offered, and nothing is written.
-fn several(book: Book, times: usize, u: usize, v: usize, colour: usize) -> Book {
+// The same edge is offered so many times, and nothing is written.
+fn several(book: Book, n: Told, colour: usize, times: usize) -> Book {
     let mut next = book;
     let mut i: usize = 0;
     while i < times {
-        next = edge_offer(next, u, v, colour, false);
+        next = coloured(next, n, colour, false);
         i = i + 1;
     }
     next
 }
 
 // Between each two of the bodies 1 to 64 that follow each other, so many red and black edges.
-fn pairs(book: Book, reds: usize, blacks: usize) -> Book {
+fn pairs(book: Book, n: Told) -> Book {
     let mut next = book;
+    let mut edge = n;
     let mut u: usize = 1;
     while u < 64 {
-        next = several(next, reds, u, u + 1, 1);
-        next = several(next, blacks, u, u + 1, 2);
+        edge.one = u;
+        edge.two = u + 1;
+        next = several(next, edge, 1, n.one);
+        next = several(next, edge, 2, n.two);
         u = u + 1;
     }
     next
@@ -68,51 +74,48 @@ pub fn strewn(a: u8, b: u8, n: u8, count: u16, x: u8) -> Book {
     }
 }
 
-// The book with an edge in the place of index e.
-fn with(book: Book, e: usize, u: u8, v: u8, colour: u8, forest: u8) -> Book {
-    let mut next = book;
-    if e < 512 {
-        next.ones[e] = u;
-        next.others[e] = v;
-        next.colours[e] = colour;
-        next.forests[e] = forest;
-    }
-    next
-}
-
+// A number as a byte: what is past 255 begins again from 0.
 fn small(x: usize) -> u8 {
     (x % 256) as u8
 }
 
-fn head(n: &[usize; 5]) -> Book {
-    let count = (n[3] % 65536) as u16;
-    strewn(small(n[0]), small(n[1]), small(n[2]), count, small(n[4]))
-}
-
-fn edge(book: Book, n: &[usize; 5]) -> Book {
-    let e = n[0];
-    if e == 0 {
-        return book;
-    }
-    with(
-        book,
-        e - 1,
-        small(n[1]),
-        small(n[2]),
-        small(n[3]),
-        small(n[4]),
+fn head(n: Told) -> Book {
+    let count = (n.four % 65536) as u16;
+    strewn(
+        small(n.one),
+        small(n.two),
+        small(n.three),
+        count,
+        small(n.five),
     )
 }
 
-pub fn change(key: u8, book: Book, n: &[usize; 5]) -> Book {
-    match key {
+// The book with an edge in a place, counted from 1.
+fn with(book: Book, n: Told) -> Book {
+    let mut next = book;
+    let place = n.one;
+    if 0 < place {
+        if place <= 512 {
+            let e = place - 1;
+            next.ones[e] = small(n.two);
+            next.others[e] = small(n.three);
+            next.colours[e] = small(n.four);
+            next.forests[e] = small(n.five);
+        }
+    }
+    next
+}
+
+pub fn change(book: Book, n: Told) -> Book {
+    let letter = n.letter;
+    match letter {
         b'o' => open(n),
-        b'r' => edge_offer(book, n[0], n[1], 1, true),
-        b'b' => edge_offer(book, n[0], n[1], 2, true),
-        b't' => several(book, n[0], n[1], n[2], n[3]),
-        b'p' => pairs(book, n[0], n[1]),
+        b'r' => coloured(book, n, 1, true),
+        b'b' => coloured(book, n, 2, true),
+        b't' => several(book, n, n.three, n.four),
+        b'p' => pairs(book, n),
         b'h' => head(n),
-        b'e' => edge(book, n),
+        b'e' => with(book, n),
         _ => book,
     }
 }

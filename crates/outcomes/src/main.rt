@@ -3,9 +3,9 @@
 // file stdout has what the definitions of document 01 give.
 mod asks;
 mod changes;
-mod say;
 
-ghost use Prim.Native.Nat.{_≤_};
+use cases::keys::Told;
+use cases::say;
 use rule::Book;
 
 // A line that begins a case ends the one before. Answers whether there is one now.
@@ -20,25 +20,23 @@ fn begun(line: &[u8], open: bool) -> bool {
     open
 }
 
-// The letter of a line's key, its numbers put into the list; 0 where the line is not understood.
-fn read(line: &[u8], list: &mut [usize]) -> u8 {
+// What a line says, by the keys that the file stdin explains, each with the number of its numbers.
+fn told(line: &[u8]) -> Told {
     cases::keys::read(
         b"open=  3red=   2black= 2times= 4pairs= 2head=  5edge=  5ask=   4lent=  3free   0close  0groups=1",
         line,
-        list,
     )
 }
 
 // A line below a case's name is carried out.
 fn carried_out(line: &[u8], number: usize, book: Book) -> Book {
-    let mut numbers = [0usize; 5];
-    let key = read(line, &mut numbers);
-    if key == 0 {
+    let n = told(line);
+    if n.letter == 0 {
         cases::bad(number);
         return book;
     }
-    asks::answer(key, book, &numbers);
-    changes::change(key, book, &numbers)
+    asks::answer(book, n);
+    changes::change(book, n)
 }
 
 // Every case begins with a book of zeros.

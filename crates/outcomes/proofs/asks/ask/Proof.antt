@@ -12,4 +12,4 @@ pub ask-spec : {M : Type 1} → statement M
 ask-spec =
     tie.close
     (tie.spec
-    (λ c. search needs) (λ c. search needs) slice-aggregate-both (λ c κs. search needs) (λ c. search needs) (λ c. search needs))
+    (λ c. search needs) slice-aggregate-both (λ c κs. search needs) (λ c. search needs) (λ c. search needs))

@@ -12,5 +12,5 @@ pub short-groups-spec : {M : Type 1} → statement M
 short-groups-spec =
     tie.close
     (tie.spec
-    (λ c. search needs) (λ c. search needs) slice-aggregate-groups (λ c κs. search needs) (λ c κs. search needs) (λ c. search needs)
+    (λ c. search needs) slice-aggregate-groups (λ c κs. search needs) (λ c κs. search needs) (λ c. search needs)
     (λ c. search needs))

@@ -5,14 +5,14 @@ use Rattle.outcomes.proofs.changes.pairs.Statement.{statement}
 use Rattle.outcomes.proofs.changes.pairs.Tie as tie
 
 abbrev Inv-loop : tie.InvT-loop
-Inv-loop reds blacks next₀ u₀ next u = Unit
+Inv-loop n next₀ edge₀ u₀ next edge u = Unit
 
 abbrev μ-loop : tie.MeasureT-loop
-μ-loop reds blacks next₀ u₀ next u = 64 - u
+μ-loop n next₀ edge₀ u₀ next edge u = 64 - u
 
 pub pairs-spec : {M : Type 1} → statement M
 pairs-spec =
     tie.close
     (tie.spec
-    Inv-loop μ-loop (λ c. search needs) (λ c. search needs) (λ c κs. search needs) (λ c. search needs) (λ c κs. search needs)
-    (λ c. search needs) (λ c. search needs) (λ c. search needs) (λ c. search needs))
+    Inv-loop μ-loop (λ c. search needs) (λ c. search needs) (λ c κs. search needs) (λ c κs. search needs) (λ c. search needs)
+    (λ c. search needs) (λ c. search needs) (λ c. search needs))

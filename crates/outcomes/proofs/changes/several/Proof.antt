@@ -5,10 +5,10 @@ use Rattle.outcomes.proofs.changes.several.Statement.{statement}
 use Rattle.outcomes.proofs.changes.several.Tie as tie
 
 abbrev Inv-loop : tie.InvT-loop
-Inv-loop times u v colour next₀ i₀ next i = Unit
+Inv-loop n colour times next₀ i₀ next i = Unit
 
 abbrev μ-loop : tie.MeasureT-loop
-μ-loop times u v colour next₀ i₀ next i = times - i
+μ-loop n colour times next₀ i₀ next i = times - i
 
 pub several-spec : {M : Type 1} → statement M
 several-spec =

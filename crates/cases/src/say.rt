@@ -2,7 +2,6 @@
 //
 // Moved is not written: it goes with the choice of forests, which document 01 leaves open.
 use rule::Answer;
-use rule::Book;
 use rule::Done;
 use rule::Figure;
 use rule::Judged;
@@ -68,7 +67,7 @@ pub fn done(said: Done) {
     }
 }
 
-fn figure(name: &[u8], said: Figure) {
+pub fn figure(name: &[u8], said: Figure) {
     text(name);
     match said {
         Figure::Number(n) => {
@@ -98,7 +97,7 @@ fn verdict(said: Verdict) {
     }
 }
 
-fn judged(said: Judged) {
+pub fn judged(said: Judged) {
     text(b" verdict");
     match said {
         Judged::Verdict(v) => {
@@ -127,7 +126,7 @@ fn body(list: &[u8; 64], i: usize) -> u8 {
     if i < 64 { list[i] } else { 0 }
 }
 
-fn grouped(said: Done, list: &[u8; 64], n: u8) {
+pub fn grouped(said: Done, list: &[u8; 64], n: u8) {
     text(b" groups");
     match said {
         Done::Fine => {
@@ -138,23 +137,4 @@ fn grouped(said: Done, list: &[u8; 64], n: u8) {
             refused(reason);
         }
     }
-}
-
-fn group_list(book: Book) {
-    let mut list = [0u8; 64];
-    let r = groups::groups(book, &mut list);
-    let n = book.n;
-    grouped(r, &list, n);
-}
-
-pub fn free(book: Book) {
-    figure(b" free", book::freedom(book));
-}
-
-// Everything that is asked of a book at its end.
-pub fn close(book: Book) {
-    free(book);
-    figure(b" dropped", book::dropped(book));
-    judged(book::verdict(book));
-    group_list(book);
 }

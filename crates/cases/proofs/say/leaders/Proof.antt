@@ -1,8 +1,8 @@
--- `outcomes::say::leaders`: each turn writes one body more.
+-- `cases::say::leaders`: each turn writes one body more.
 use borrow.Author.Needs.{needs}
 use Prim.Native.Nat.{_-_}
-use Rattle.outcomes.proofs.say.leaders.Statement.{statement}
-use Rattle.outcomes.proofs.say.leaders.Tie as tie
+use Rattle.cases.proofs.say.leaders.Statement.{statement}
+use Rattle.cases.proofs.say.leaders.Tie as tie
 
 abbrev Inv-loop : tie.InvT-loop
 Inv-loop list n i₀ t4 i = Unit

@@ -1,8 +1,8 @@
--- `outcomes::say::numbers`: each turn writes one number more.
+-- `cases::say::numbers`: each turn writes one number more.
 use borrow.Author.Needs.{needs}
 use Prim.Native.Nat.{_-_}
-use Rattle.outcomes.proofs.say.numbers.Statement.{statement}
-use Rattle.outcomes.proofs.say.numbers.Tie as tie
+use Rattle.cases.proofs.say.numbers.Statement.{statement}
+use Rattle.cases.proofs.say.numbers.Tie as tie
 
 abbrev Inv-loop : tie.InvT-loop
 Inv-loop list n i₀ t4 i = Unit
