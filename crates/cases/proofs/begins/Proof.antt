@@ -1,4 +1,4 @@
--- `cases::begins`: the bytes of the key that are left grow fewer.
+-- `cases::begins`: the bytes of the key that are left grow fewer. Assumes nothing.
 use borrow.Author.Needs.{needs}
 use Prim.Native.Nat.{_-_}
 use lib.ListN.{length}

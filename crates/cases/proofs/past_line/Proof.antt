@@ -1,4 +1,4 @@
--- `cases::past_line`: the end goes on byte by byte, and at least once.
+-- `cases::past_line`: the end goes on byte by byte, and at least once. Assumes nothing.
 use borrow.Author.Needs.{needs}
 use Prim.Native.Nat.{_≤_, _-_}
 use lib.ListN.{length}

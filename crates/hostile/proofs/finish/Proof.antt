@@ -1,4 +1,4 @@
--- `hostile::finish`: so many bytes from the front are so many.
+-- `hostile::finish`: so many bytes from the front are so many. Assumes nothing.
 use borrow.Author.Needs.{needs}
 use mathlib.Core.Path.{sym}
 use native.Mathlib.Omega.{arith}

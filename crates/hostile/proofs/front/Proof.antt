@@ -1,4 +1,4 @@
--- `hostile::front`: so many bytes from the front are so many.
+-- `hostile::front`: so many bytes from the front are so many. Assumes nothing.
 use borrow.Author.Needs.{needs}
 use mathlib.Core.Path.{sym}
 use lib.Seq.{length-take-le}

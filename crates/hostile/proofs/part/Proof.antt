@@ -1,4 +1,4 @@
--- `hostile::part`: the bytes left grow fewer.
+-- `hostile::part`: the bytes left grow fewer. Assumes nothing.
 use borrow.Author.Needs.{needs}
 use Prim.Native.Nat.{_-_}
 use lib.ListN.{length}

@@ -1,4 +1,4 @@
--- `hostile::run`: each turn goes on by one line at least a byte long; there are no more lines than bytes.
+-- `hostile::run`: each turn goes on by one line at least a byte long; there are no more lines than bytes. Assumes nothing.
 use borrow.Author.Needs.{needs}
 use mathlib.Core.Path.{_≡_}
 use Prim.Native.Nat.{_≤_, _-_}

@@ -1,4 +1,4 @@
--- `outcomes::run`: each turn goes on by one line, at least a byte long; there are no more lines than bytes.
+-- `outcomes::run`: each turn goes on by one line, at least a byte long; there are no more lines than bytes. Assumes nothing.
 use borrow.Author.Needs.{needs}
 use Prim.Native.Nat.{_≤_, _-_}
 use lib.ListN.{length}

@@ -1,4 +1,4 @@
--- `cases::keys::key_in`: the rows that are left stand in the table, and grow fewer.
+-- `cases::keys::key_in`: the rows that are left stand in the table, and grow fewer. Assumes nothing.
 use borrow.Author.Needs.{needs}
 use Prim.Native.Nat.{_≤_, _*_}
 use lib.ListN.{length}

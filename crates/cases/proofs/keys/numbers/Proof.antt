@@ -1,4 +1,4 @@
--- `cases::keys::numbers`: the numbers that are due still grow fewer.
+-- `cases::keys::numbers`: the numbers that are due still grow fewer. Assumes nothing.
 use borrow.Author.Needs.{needs}
 use Prim.Native.Nat.{_-_}
 use Rattle.cases.proofs.keys.numbers.Statement.{statement}

@@ -1,4 +1,4 @@
--- `cases::keys::past_key`: the bytes of the row that are left grow fewer.
+-- `cases::keys::past_key`: the bytes of the row that are left grow fewer. Assumes nothing.
 use borrow.Author.Needs.{needs}
 use Prim.Native.Nat.{_-_}
 use Rattle.cases.proofs.keys.past_key.Statement.{statement}

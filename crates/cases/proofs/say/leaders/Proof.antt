@@ -1,4 +1,4 @@
--- `cases::say::leaders`: each turn writes one body more.
+-- `cases::say::leaders`: each turn writes one body more. Assumes nothing.
 use borrow.Author.Needs.{needs}
 use Prim.Native.Nat.{_-_}
 use Rattle.cases.proofs.say.leaders.Statement.{statement}

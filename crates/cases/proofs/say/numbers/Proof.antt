@@ -1,4 +1,4 @@
--- `cases::say::numbers`: each turn writes one number more.
+-- `cases::say::numbers`: each turn writes one number more. Assumes nothing.
 use borrow.Author.Needs.{needs}
 use Prim.Native.Nat.{_-_}
 use Rattle.cases.proofs.say.numbers.Statement.{statement}

@@ -1,4 +1,4 @@
--- `hostile::lay::once`: each piece takes at least one byte of the line, and no more than are left.
+-- `hostile::lay::once`: each piece takes at least one byte of the line, and no more than are left. Assumes nothing.
 use borrow.Author.Needs.{needs}
 use mathlib.Core.Path.{_≡_}
 use Prim.Native.Nat.{_≤_, _-_}

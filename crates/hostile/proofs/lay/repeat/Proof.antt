@@ -1,4 +1,4 @@
--- `hostile::lay::repeat`: the times that are left grow fewer.
+-- `hostile::lay::repeat`: the times that are left grow fewer. Assumes nothing.
 use borrow.Author.Needs.{needs}
 use mathlib.Core.Path.{_≡_}
 use Prim.Native.Nat.{_-_}

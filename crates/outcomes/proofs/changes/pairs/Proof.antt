@@ -1,4 +1,4 @@
--- `outcomes::changes::pairs`: each turn goes on to the next body.
+-- `outcomes::changes::pairs`: each turn goes on to the next body. Assumes nothing.
 use borrow.Author.Needs.{needs}
 use Prim.Native.Nat.{_-_}
 use Rattle.outcomes.proofs.changes.pairs.Statement.{statement}

@@ -1,4 +1,4 @@
--- `outcomes::changes::several`: each turn offers one edge.
+-- `outcomes::changes::several`: each turn offers one edge. Assumes nothing.
 use borrow.Author.Needs.{needs}
 use Prim.Native.Nat.{_-_}
 use Rattle.outcomes.proofs.changes.several.Statement.{statement}
