@@ -182,7 +182,7 @@ static int free_forest(const struct book *book, int x)
     uint64_t names, others, permitted;
     memcpy(&names, one, ROW);
     memcpy(&others, other, ROW);
-    memcpy(&permitted, book->permitted[book->limit[x]], ROW);
+    memcpy(&permitted, book->permitted[book->colour[x]], ROW);
     if (!((names ^ others) & permitted))
         return 0;
     int i = 0;
@@ -315,8 +315,8 @@ int plain_open(struct book *book, int a, int b, int n)
     book->edges = book->kept = 0;
     memset(book->tree, 0, sizeof book->tree);
     memset(book->permitted, 0, sizeof book->permitted);
-    memset(book->permitted[a], 0xff, a);
-    memset(book->permitted[a + b], 0xff, a + b);
+    memset(book->permitted[RED], 0xff, a);
+    memset(book->permitted[BLACK], 0xff, a + b);
     plain_root(book);
     return 0;
 }

@@ -45,7 +45,7 @@ struct book {
     /* by body, the forests side by side, since a search asks an edge about all of them */
     uint64_t way[MOST_BODIES][ROW]; /* the bodies on the way up, one bit each: itself too, the root not */
     uint8_t tree[MOST_BODIES][ROW]; /* a name of its tree, the same for all bodies of the tree */
-    uint8_t permitted[MOST_FORESTS + 1][ROW]; /* by limit: 255 in the places of the forests up to it, 0 in the others */
+    uint8_t permitted[BLACK + 1][ROW]; /* by colour: 255 in the places of the forests where such an edge may stand, else 0 */
 };
 
 /* 0, or the reason */
