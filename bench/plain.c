@@ -230,7 +230,7 @@ static void reach(struct search *s, const uint16_t *up, uint64_t bodies, int hea
 
 /* Whether the search ends with an edge that waits from place `first` on. The first edge of the queue that is free ends it when its turn
  * comes, whatever those before it would reach till then: so it ends here and now. */
-static int ends(const struct book *book, struct search *s, int first)
+static int free_waits(const struct book *book, struct search *s, int first)
 {
     for (int place = first; place < s->tail; place++)
         if ((s->forest = free_forest(book, s->queue[place]))) {
@@ -254,7 +254,7 @@ static void start(struct search *s, int x)
 static int search(const struct book *book, struct search *s)
 {
     start(s, book->edges);
-    if (ends(book, s, 0))
+    if (free_waits(book, s, 0))
         return 1;
     for (int head = 0; head < s->tail; head++) {
         int x = s->queue[head], limit = book->limit[x];
@@ -266,7 +266,7 @@ static int search(const struct book *book, struct search *s)
             int first = s->tail;
             s->unreached[i] ^= fresh;
             reach(s, book->rooted[i].up, fresh, head);
-            if (ends(book, s, first))
+            if (free_waits(book, s, first))
                 return 1;
         }
     }
