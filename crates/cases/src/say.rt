@@ -18,7 +18,7 @@ fn number(n: u16) {
 
 fn refused(reason: Reason) {
     text(b" refused=");
-    io::print_decimal(1, pages::number_of(reason) as u64);
+    io::print_decimal(1, reports::number_of(reason) as u64);
     if let Reason::Unsound(place) = reason {
         text(b",");
         number(place);

@@ -1,5 +1,5 @@
 // The certificate of a book text: the text, and for each edge its forest or its circuit (document 01, "The report, whole").
-use paging::Kind;
+use pager::Kind;
 
 fn main() {
     printing::print(Kind::Certificate);

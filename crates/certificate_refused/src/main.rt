@@ -1,5 +1,5 @@
 // The certificate program, run on a text that is refused: the two ends of its edge are one body.
-use paging::Kind;
+use pager::Kind;
 
 fn main() {
     printing::print(Kind::Certificate);

@@ -5,8 +5,8 @@ mod lay;
 
 use cases::say;
 use lay::Laid;
-use pages::Line;
-use paging::Kind;
+use reports::Line;
+use pager::Kind;
 
 // The case that is being read: whether there is one yet, and how long its text is so far.
 struct Case {
@@ -47,7 +47,7 @@ fn front(bytes: &[u8], size: usize) {
 fn first_line(book: &[u8]) {
     let mut buffer = [0u8; 2048];
     let state = reader::begin(book);
-    let r = paging::next(Kind::Report, state, &mut buffer);
+    let r = pager::next(Kind::Report, state, &mut buffer);
     let answer = r.answer;
     match answer {
         Line::Written(size) => front(&buffer, size),

@@ -11,7 +11,7 @@ use Rattle.rule.specs.declared.Book.{Book}
 use Rattle.rule.specs.Sets.{at}
 use Rattle.text.specs.Lines.{line, key-a, key-b, key-bodies, key-edges}
 use Rattle.text.specs.Sheets.{edgeText}
-use Rattle.pages.specs.Reports.{bookLine}
+use Rattle.reports.specs.Reports.{bookLine}
 
 module _ (B : Book) (i : ℕ) where
   pub line-a : i ≡ 0 → bookLine B i ≡ line key-a (B .a ∷ [])

@@ -2,7 +2,7 @@
 -- and otherwise a prefix of them.
 --
 -- A page arrives whole, or the write fails and some bytes of its front have arrived. As `send` requires, each is the page that is next, and none comes
--- after a write that failed. So what arrived whole are successive pages (crate settled), and with the rest of the page that was cut it is one page more.
+-- after a write that failed. So what arrived whole are successive pages (crate readings), and with the rest of the page that was cut it is one page more.
 -- Not here: that a program goes on until all lines have come (Turns.antt). That a write does this with its bytes is what no contract of the C library
 -- says; the definition says it.
 -- Assumes nothing.
@@ -12,15 +12,15 @@ use mathlib.Core.List.{List, [], _++_, append-assoc, append-nil}
 use Prim.Native.Nat.{ℕ, _≤_, _<_}
 use native.Mathlib.Omega.{arith}
 use lib.ListN.{getD}
-use Rattle.pages.specs.declared.State.{State}
-use Rattle.pages.specs.Reads.{Receives}
-use Rattle.pages.specs.Steps.{linesOf, LineOf}
-use Rattle.pages.specs.Texts.{Report, CertificateOf}
-use Rattle.paging.specs.declared.Kind.{Kind}
-use Rattle.paging.specs.Kinds.{formOf}
-use Rattle.settled.proofs.Spelling.{Spelled}
-use Rattle.settled.proofs.Pages.{pages-to}
-use Rattle.settled.proofs.Texts.{report-of-text, certificate-of-text}
+use Rattle.reports.specs.declared.State.{State}
+use Rattle.reports.specs.Reads.{Receives}
+use Rattle.reports.specs.Steps.{linesOf, LineOf}
+use Rattle.reports.specs.Texts.{Report, CertificateOf}
+use Rattle.pager.specs.declared.Kind.{Kind}
+use Rattle.pager.specs.Kinds.{formOf}
+use Rattle.readings.proofs.Spelling.{Spelled}
+use Rattle.readings.proofs.Pages.{pages-to}
+use Rattle.readings.proofs.Texts.{report-of-text, certificate-of-text}
 use Rattle.printing.specs.declared.output.Sent.{Sent}
 use Rattle.printing.specs.Sending.{allLines, AtFirstLine, Sendable, Sends, stateAfter, TextSent}
 use Rattle.printing.proofs.Turns.{UnderWay, under-way-first, under-way-to, next-run, under-way-again}

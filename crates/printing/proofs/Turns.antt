@@ -1,7 +1,7 @@
 -- One turn of the programs' loop, in which a page is asked for and handed over, and the turns one after the other.
 --
 -- The checks of a page pass, so that it is written or says that all lines have come. One that is written is the page that is next; handed over, it
--- leaves the state after it, or the state before where the write failed. So what was handed over are successive pages (crate settled): the state is
+-- leaves the state after it, or the state before where the write failed. So what was handed over are successive pages (crate readings): the state is
 -- that of the text with so many lines written, none past the last, and in each turn fewer lines are left.
 -- Not here: which bytes came, put one behind the other (Arrived.antt).
 -- Assumes nothing.
@@ -16,14 +16,14 @@ use Rattle.io.specs.Counts.{Counts}
 use Rattle.rule.specs.declared.Reason.{Reason}
 use Rattle.rule.specs.Reasons.{Pass}
 use Rattle.rule.proofs.Determined.{pass-not-fail}
-use Rattle.pages.specs.declared.State.{State}
-use Rattle.pages.specs.declared.Line.{Line}
-use Rattle.pages.specs.Reads.{Receives}
-use Rattle.pages.specs.Steps.{linesOf, written, lineRoom, Readable, stepChecks, PageOf, Page}
-use Rattle.paging.specs.declared.Kind.{Kind}
-use Rattle.paging.specs.Kinds.{formOf}
-use Rattle.settled.proofs.Pages.{Pages, none-yet, page, PagesTo, pages-to, page-further}
-use Rattle.settled.proofs.Whole.{receives-readable}
+use Rattle.reports.specs.declared.State.{State}
+use Rattle.reports.specs.declared.Line.{Line}
+use Rattle.reports.specs.Reads.{Receives}
+use Rattle.reports.specs.Steps.{linesOf, written, lineRoom, Readable, stepChecks, PageOf, Page}
+use Rattle.pager.specs.declared.Kind.{Kind}
+use Rattle.pager.specs.Kinds.{formOf}
+use Rattle.readings.proofs.Pages.{Pages, none-yet, page, PagesTo, pages-to, page-further}
+use Rattle.readings.proofs.Whole.{receives-readable}
 use Rattle.printing.specs.declared.output.Sent.{Sent}
 use Rattle.printing.specs.Sending.{allLines, AtFirstLine, Sendable, Sends, stateAfter, BeforeTurn, SentFurther, SentLast, TurnSent, LinesSent, TextSent}
 

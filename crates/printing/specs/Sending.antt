@@ -7,11 +7,11 @@ use mathlib.Core.List.{List}
 use Prim.Native.Nat.{ℕ, _≤_}
 use lib.ListN.{length, take}
 use Rattle.io.specs.Counts.{Counts}
-use Rattle.pages.specs.declared.State.{State}
-use Rattle.pages.specs.Reads.{Receives}
-use Rattle.pages.specs.Steps.{linesOf, written, lineRoom, Readable, PageOf}
-use Rattle.paging.specs.declared.Kind.{Kind}
-use Rattle.paging.specs.Kinds.{formOf}
+use Rattle.reports.specs.declared.State.{State}
+use Rattle.reports.specs.Reads.{Receives}
+use Rattle.reports.specs.Steps.{linesOf, written, lineRoom, Readable, PageOf}
+use Rattle.pager.specs.declared.Kind.{Kind}
+use Rattle.pager.specs.Kinds.{formOf}
 use Rattle.printing.specs.declared.output.Sent.{Sent}
 use Rattle.printing.specs.declared.Input.{Input}
 

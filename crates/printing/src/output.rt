@@ -2,12 +2,12 @@
 // read, and it goes on by handing over the lines that are next. No contract of the C library says what a write does with its bytes; this module
 // says which bytes they are, and in what order they come.
 ghost use mathlib.Core.Path.{_≡_};
-ghost use Rattle.pages.specs.Steps.{Page};
-ghost use Rattle.paging.specs.Kinds.{formOf};
+ghost use Rattle.reports.specs.Steps.{Page};
+ghost use Rattle.pager.specs.Kinds.{formOf};
 ghost use Rattle.printing.specs.Sending.{AtFirstLine, NothingSent, Sendable, Sends};
-use pages::State;
-use pages::Stepped;
-use paging::Kind;
+use reports::State;
+use reports::Stepped;
+use pager::Kind;
 
 // Of which report or certificate lines were handed over, the state after them, and whether a read or a write has failed.
 pub struct Sent {
@@ -66,7 +66,7 @@ pub fn next_page(sent: Sent, buffer: &mut [u8]) -> Stepped
 {
     let kind = sent.kind;
     let state = sent.state;
-    paging::page(kind, state, buffer)
+    pager::page(kind, state, buffer)
 }
 
 // Hands over the lines that are next. Where the write fails some of their bytes may have arrived, and nothing more can be handed over.

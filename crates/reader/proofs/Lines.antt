@@ -17,13 +17,13 @@ use Rattle.text.specs.Sheets.{SheetRange, textOf}
 use Rattle.text.specs.EdgeLists.{EdgeLists, Roomy, EdgesEntered, edgeIn, edgesIn, sheetIn}
 use Rattle.text.specs.Judgements.{IsSheet}
 use Rattle.text.proofs.Lists.{entered-roomy, edge-in-range, edges-in-length, entered-sheet}
-use Rattle.pages.specs.Reads.{Offers, Reads}
-use Rattle.pages.specs.Reads.Offers.{none, then}
+use Rattle.reports.specs.Reads.{Offers, Reads}
+use Rattle.reports.specs.Reads.Offers.{none, then}
 use Rattle.planting.specs.Calls.{Sized}
 use Rattle.labels.specs.Labels.{Begun}
 use Rattle.book.specs.Scan.{Cleared}
 use Rattle.book.proofs.Scanning.{scanning-none, scanned-all}
-use Rattle.placing.specs.Take.{Takes, Takeable}
+use Rattle.engine.specs.Take.{Takes, Takeable}
 use Rattle.step.proofs.Runs.{Grew, new-grew, offer-grew}
 use Rattle.reader.specs.Growing.{Growing}
 

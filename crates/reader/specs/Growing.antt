@@ -5,8 +5,8 @@ use Rattle.rule.specs.declared.Book.{Book}
 use Rattle.rule.specs.Books.{Sound, GrownBook}
 use Rattle.rule.specs.Calls.{newBook}
 use Rattle.text.specs.EdgeLists.{EdgeLists, edgesIn}
-use Rattle.pages.specs.Reads.{Offers}
-use Rattle.placing.specs.Take.{Ready}
+use Rattle.reports.specs.Reads.{Offers}
+use Rattle.engine.specs.Take.{Ready}
 
 -- a book was opened and offered as many edges of the lists as it has, and the tables hold its forests
 pub record Growing (given : EdgeLists) (B : Book) (root way who edge size : List ℕ) : Type 0 where

@@ -1,14 +1,14 @@
 // Reading book text: each line is read once, and its edge entered in lists (crate text); then a book is opened and offered the edges in
-// order. The tables of the forests are kept from one edge to the next (crate placing), so that no scan of the book is made.
+// order. The tables of the forests are kept from one edge to the next (crate engine), so that no scan of the book is made.
 ghost use mathlib.Core.Path.{_≡_};
 ghost use Rattle.rule.specs.Calls.{newBook};
 ghost use Rattle.text.specs.Sheets.{SheetRange};
 ghost use Rattle.text.specs.EdgeLists.{lists, Roomy, edgesIn, sheetIn};
-ghost use Rattle.pages.specs.Reads.{Offers, Receives};
-use pages::Read;
-use pages::Received;
-use pages::State;
-use placing::Head;
+ghost use Rattle.reports.specs.Reads.{Offers, Receives};
+use reports::Read;
+use reports::Received;
+use reports::State;
+use engine::Head;
 use rule::Book;
 use text::Judgement;
 
@@ -35,7 +35,7 @@ fn grow(a: u8, b: u8, n: u8, edges: u16, us: &[u8; 512], vs: &[u8; 512], cs: &[u
     while count < edges {
         let head = Head { a, b, n, count };
         let i = count as usize;
-        placing::take(
+        engine::take(
             head,
             us[i],
             vs[i],

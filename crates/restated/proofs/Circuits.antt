@@ -21,7 +21,7 @@ use Rattle.rule.specs.Calls.{ImpliesIt}
 use Rattle.rule.proofs.Tests.{is-false}
 use Rattle.rule.proofs.Counting.{count-mono, length-numbers}
 use Rattle.theory.proofs.Legal.Kept.{kept-make, kept-has, kept-most}
-use Rattle.closing.proofs.Sizes.{at-most-378}
+use Rattle.promises.proofs.Sizes.{at-most-378}
 use Rattle.restated.specs.BookBars.{LegalWith, CircuitEdge, CircuitOf, ExactCircuit}
 use Rattle.restated.proofs.Members.{ascending-same, numbers-member, member-numbers, numbers-ascending}
 use Rattle.restated.proofs.Bodies.{held-by, held-member, member-held}

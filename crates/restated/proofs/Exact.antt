@@ -19,7 +19,7 @@ use Rattle.rule.specs.Calls.{KeepsIt, ImpliesIt, Offer, Question}
 use Rattle.rule.proofs.Passed.{Asked, passed-offer, passed-question}
 use Rattle.rule.proofs.Outcomes.{AnswersAgree}
 use Rattle.step.specs.Runs.{Taken}
-use Rattle.closing.specs.Undo.{IsKept, IsImplied}
+use Rattle.promises.specs.Undo.{IsKept, IsImplied}
 use Rattle.restated.specs.BookBars.{LegalWith, SaysInLists}
 use Rattle.restated.proofs.Kept.{keeps-iff}
 use Rattle.restated.proofs.Circuits.{exact-circuit-determined, implied-iff-exact}

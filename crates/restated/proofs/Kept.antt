@@ -19,7 +19,7 @@ use Rattle.rule.specs.Books.{Edge, designOf, forestOf, keptOf, offered, plus, n
 use Rattle.rule.proofs.Tests.{same-test, and-make, and-l, and-r, isnt-make, isnt-not, eq-of, eq-is, lt-of, lt-is, put-same, put-other, without-old, without-ne, without-make}
 use Rattle.theory.proofs.Legal.Kept.{kept-make, kept-has}
 use Rattle.theory.proofs.Laws.Plus.{plus-one, plus-other, plus-red, new-one, new-other, new-red}
-use Rattle.placing.proofs.Says.{offered-ends}
+use Rattle.engine.proofs.Says.{offered-ends}
 use Rattle.restated.specs.Bars.{Bar, LegalBars}
 use Rattle.restated.specs.BookBars.{placeBar, front-if, keptUpTo, keptBut, keptBars, newBar, LegalWith}
 use Rattle.restated.proofs.Inside.{edgeBar, barsOf}

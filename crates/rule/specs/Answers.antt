@@ -3,7 +3,7 @@
 --
 -- Each definition goes through the cases of one enum of src/lib.rt: which of 01's words a case is, and which numbers come with it. A refusal is the
 -- number of its reason in 01's table and the place that comes with it. What is said of those numbers is given by the call (Calls.antt).
--- Not here: the numbers of the reasons (Reasons.antt), and the words of the verdicts, the answers of reading and of the steppers (crate pages).
+-- Not here: the numbers of the reasons (Reasons.antt), and the words of the verdicts, the answers of reading and of the steppers (crate reports).
 use Prim.Native.Nat.{ℕ}
 use Rattle.rule.specs.declared.Verdict.{Verdict}
 use Rattle.rule.specs.declared.Answer.{Answer}

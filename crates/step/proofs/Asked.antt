@@ -20,10 +20,10 @@ use Rattle.theory.specs.Search.{pathTo}
 use Rattle.theory.proofs.Legal.Sound.{sound-head}
 use Rattle.book.specs.declared.Checked.{Checked}
 use Rattle.book.specs.Checks.{Found}
-use Rattle.placing.specs.declared.Head.{Head}
-use Rattle.placing.specs.Take.{longer}
-use Rattle.placing.specs.Seek.{bookOf, forestsFor, Seekable, Ends, Fails}
-use Rattle.placing.proofs.Says.{found-says, stuck-says}
+use Rattle.engine.specs.declared.Head.{Head}
+use Rattle.engine.specs.Take.{longer}
+use Rattle.engine.specs.Seek.{bookOf, forestsFor, Seekable, Ends, Fails}
+use Rattle.engine.proofs.Says.{found-says, stuck-says}
 use Rattle.step.specs.Answers.{answerOf, Askable}
 
 -- ---- the checks

@@ -12,8 +12,8 @@ use Rattle.rule.specs.Books.{Edge, designOf, ProfileRange, BodiesRange, HeadRul
 use Rattle.rule.specs.Calls.{newBook, Adds, Offer}
 use Rattle.step.specs.Runs.{Run}
 use Rattle.step.specs.Runs.Run.{opened, offered}
-use Rattle.placing.specs.Take.{Full}
-use Rattle.placing.proofs.Offers.{kept-sound, kept-grown, implied-sound, implied-grown}
+use Rattle.engine.specs.Take.{Full}
+use Rattle.engine.proofs.Offers.{kept-sound, kept-grown, implied-sound, implied-grown}
 
 -- sound, grown, and whole
 pub record Grew (B : Book) : Type 0 where

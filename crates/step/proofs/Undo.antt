@@ -21,7 +21,7 @@ use Rattle.theory.specs.Order.{Renumbered, ImpliedBy}
 use Rattle.theory.proofs.Theorems.{order-freedom, order-implies, more-implied, implied-adds-none, exchange-law}
 use Rattle.theory.proofs.Legal.Sound.{sound-ends}
 use Rattle.step.specs.Runs.{Taken, Run, BookImplies}
-use Rattle.placing.proofs.After.{design-after}
+use Rattle.engine.proofs.After.{design-after}
 use Rattle.step.proofs.Runs.{Grew, run-grew, offer-grew}
 
 -- ---- a question says what a book implies

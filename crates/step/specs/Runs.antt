@@ -1,6 +1,6 @@
 -- Books that came from opening and any run of offers, refused ones among them; and what a book implies.
 --
--- Not here: the edges that such a book came from, in a list; crate closing.
+-- Not here: the edges that such a book came from, in a list; crate promises.
 use Prim.Native.Nat.{ℕ}
 use mathlib.Core.List.{List}
 use Rattle.rule.specs.declared.Book.{Book}

@@ -1,16 +1,16 @@
 // Offer and question: the calls that judge an edge. Each takes any numbers and any book. The relations that the contracts cite are those of
 // crate rule, specs/Calls.antt.
 //
-// Both check, and so scan the book, whose forests the tables then hold; then an offer takes the edge (crate placing), and a question
+// Both check, and so scan the book, whose forests the tables then hold; then an offer takes the edge (crate engine), and a question
 // only seeks its place.
 ghost use mathlib.Core.Path.{_≡_};
 ghost use Rattle.rule.specs.Books.{theEdge};
 ghost use Rattle.rule.specs.Calls.{Offer, Question};
-ghost use Rattle.placing.specs.Take.{Takeable};
+ghost use Rattle.engine.specs.Take.{Takeable};
 ghost use Rattle.step.specs.Answers.{answerOf, Askable};
 use book::Checked;
-use placing::Head;
-use placing::Place;
+use engine::Head;
+use engine::Place;
 use rule::Answer;
 use rule::Book;
 
@@ -59,7 +59,7 @@ fn taken(
     let mut queue = [0u16; 379];
     let mut from = [0u16; 379];
     let mut path = [0u16; 379];
-    let answer = placing::take(
+    let answer = engine::take(
         head,
         u,
         v,
@@ -150,7 +150,7 @@ fn sought(
     requires { ⌜ Askable book (theEdge u v colour) (now list) (now root) (now way) (now edge) ⌝ }
     ensures { λ r. ⌜ Question book (theEdge u v colour) (now (list .entry)) (now (list .exit)) r ⌝ }
 {
-    let place = placing::place_for(book, u, v, colour, root, way, edge, list);
+    let place = engine::place_for(book, u, v, colour, root, way, edge, list);
     match place {
         Place::Found(n, f) => Answer::Kept(n as u16),
         Place::Stuck(n) => Answer::Implied(n),

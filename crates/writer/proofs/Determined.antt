@@ -7,7 +7,7 @@ use Prim.Native.Nat.{ℕ}
 use Rattle.rule.specs.declared.Book.{Book}
 use Rattle.rule.specs.declared.Figure.{Figure}
 use Rattle.rule.proofs.Determined.{fail-determined, pass-not-fail, nothing-single, place-single}
-use Rattle.pages.specs.Reads.{writeChecks, Written}
+use Rattle.reports.specs.Reads.{writeChecks, Written}
 
 pub write-determined : (B : Book) (buffer one other : List ℕ) (x y : Figure) → Written B buffer one x → Written B buffer other y
     → (one ≡ other) × (x ≡ y)

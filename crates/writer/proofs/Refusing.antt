@@ -13,7 +13,7 @@ use Rattle.rule.specs.declared.Figure.{Figure}
 use Rattle.rule.specs.Books.{Sound}
 use Rattle.rule.specs.Reasons.{Fail, bookChecks}
 use Rattle.text.specs.Sheets.{textRoom}
-use Rattle.pages.specs.Reads.{Written}
+use Rattle.reports.specs.Reads.{Written}
 
 pub refused-unsound : (B : Book) (buffer : List ℕ) (r : Reason) → Fail (bookChecks B) r → Written B buffer buffer (Figure.Refused r)
 refused-unsound B buffer r (inl x) = (inl x, refl)

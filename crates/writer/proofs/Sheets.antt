@@ -15,8 +15,8 @@ use Rattle.theory.proofs.Legal.Sound.{sound-head}
 use Rattle.text.specs.Sheets.{EdgesRange, SheetRange, edgeText, edgesText, headText, textOf, textRoom}
 use Rattle.text.proofs.SheetRuns.{edges-text-append}
 use Rattle.text.proofs.Sizes.{sheet-size}
-use Rattle.pages.specs.Reads.{edgesOf, sheetOf}
-use Rattle.pages.specs.Reports.{bookLine, bookText}
+use Rattle.reports.specs.Reads.{edgesOf, sheetOf}
+use Rattle.reports.specs.Reports.{bookLine, bookText}
 use Rattle.lines.proofs.Rounds.{Pieces}
 
 -- ---- the edges as a list

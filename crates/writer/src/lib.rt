@@ -5,7 +5,7 @@ ghost use lib.ListN.{length};
 ghost use Rattle.rule.specs.Books.{Sound};
 ghost use Rattle.text.specs.Sheets.{textOf, textRoom};
 ghost use Rattle.text.specs.Puts.{Writes};
-ghost use Rattle.pages.specs.Reads.{sheetOf, Written};
+ghost use Rattle.reports.specs.Reads.{sheetOf, Written};
 use book::Checked;
 use rule::Book;
 use rule::Figure;

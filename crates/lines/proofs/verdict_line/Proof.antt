@@ -7,7 +7,7 @@ use Rattle.rule.specs.declared.Verdict.{Verdict}
 use Rattle.text.specs.Lines.{LF}
 use Rattle.text.specs.Puts.{Writes}
 use Rattle.text.proofs.Overwrites.{writes-as}
-use Rattle.pages.specs.Keys.{key-verdict, wordOf}
+use Rattle.reports.specs.Keys.{key-verdict, wordOf}
 use Rattle.lines.proofs.verdict_line.Statement.{statement}
 use Rattle.lines.proofs.verdict_line.Tie as tie
 

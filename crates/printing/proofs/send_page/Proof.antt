@@ -2,9 +2,9 @@
 use borrow.Author.Needs.{needs}
 use mathlib.Core.Path.{_≡_, sym, subst, subst₂}
 use mathlib.Core.Bool.{Bool}
-use Rattle.pages.specs.declared.Line.{Line}
-use Rattle.pages.specs.Steps.{Page}
-use Rattle.paging.specs.Kinds.{formOf}
+use Rattle.reports.specs.declared.Line.{Line}
+use Rattle.reports.specs.Steps.{Page}
+use Rattle.pager.specs.Kinds.{formOf}
 use Rattle.printing.specs.declared.output.Sent.{Sent}
 use Rattle.printing.specs.Sending.{TurnSent}
 use Rattle.printing.proofs.Turns.{over-last, refused-last, page-sendable, page-sent}

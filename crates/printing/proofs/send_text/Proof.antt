@@ -1,4 +1,4 @@
--- `printing::send_text`: what was read can be stepped through (crate settled), and its pages are handed over. Assumes nothing.
+-- `printing::send_text`: what was read can be stepped through (crate readings), and its pages are handed over. Assumes nothing.
 use borrow.Author.Needs.{needs}
 use Rattle.printing.proofs.Turns.{text-turn, text-sent}
 use Rattle.printing.proofs.send_text.Statement.{statement}

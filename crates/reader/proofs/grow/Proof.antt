@@ -8,8 +8,8 @@ use Prim.Native.Nat.{ℕ, suc, _+_, _-_, _≤_}
 use lib.ListN.{length, replicate, getD-replicate}
 use Rattle.rule.specs.Calls.{newBook}
 use Rattle.text.specs.EdgeLists.{EdgeLists, lists, edgesIn}
-use Rattle.pages.specs.Reads.{Offers}
-use Rattle.placing.specs.Seek.{bookOf}
+use Rattle.reports.specs.Reads.{Offers}
+use Rattle.engine.specs.Seek.{bookOf}
 use Rattle.planting.specs.Calls.{Sized}
 use Rattle.book.specs.Scan.{Cleared}
 use Rattle.reader.specs.Growing.{Growing}

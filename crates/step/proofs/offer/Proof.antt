@@ -6,7 +6,7 @@ use Rattle.rule.proofs.Passed.{passed-offer}
 use Rattle.rule.specs.Books.{theEdge}
 use Rattle.rule.specs.Reasons.{Pass, offerChecks}
 use Rattle.book.specs.Checks.{Holds}
-use Rattle.placing.specs.Take.{Full}
+use Rattle.engine.specs.Take.{Full}
 use Rattle.book.proofs.Checks.{passed}
 use Rattle.step.proofs.Asked.{offer-refused, InBytes, asked-in-bytes}
 use Rattle.step.proofs.offer.Statement.{statement}

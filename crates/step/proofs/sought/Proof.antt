@@ -5,9 +5,9 @@ use mathlib.Core.List.{List}
 use Prim.Native.Nat.{ℕ}
 use Rattle.rule.proofs.Passed.{passed-question}
 use Rattle.rule.specs.Books.{theEdge}
-use Rattle.placing.specs.declared.Place.{Place}
-use Rattle.placing.specs.declared.Place.the-variants.{Found}
-use Rattle.placing.specs.Seek.{Seeks}
+use Rattle.engine.specs.declared.Place.{Place}
+use Rattle.engine.specs.declared.Place.the-variants.{Found}
+use Rattle.engine.specs.Seek.{Seeks}
 use Rattle.step.proofs.Asked.{asks, answers-kept, answers-implied}
 use Rattle.step.proofs.sought.Statement.{statement}
 use Rattle.step.proofs.sought.Tie as tie

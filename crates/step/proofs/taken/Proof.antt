@@ -1,4 +1,4 @@
--- `step::taken`: the book taken apart, the edge taken (crate placing), and a book put together.
+-- `step::taken`: the book taken apart, the edge taken (crate engine), and a book put together.
 use borrow.Author.Needs.{needs}
 use mathlib.Core.Path.{refl}
 use native.Mathlib.Omega.{arith}

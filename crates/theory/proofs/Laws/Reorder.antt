@@ -4,7 +4,7 @@
 -- With one edge more the last number goes to the last number. With two more, their numbers change places, and an edge looks in the one
 -- design as its number looks in the other.
 --
--- Not here: what the same edges in another order come to, in Order.antt; from lists of edges to designs, crate closing.
+-- Not here: what the same edges in another order come to, in Order.antt; from lists of edges to designs, crate promises.
 -- Assumes nothing.
 use mathlib.Core.Path.{_≡_, refl, sym, ap, _∙_, subst}
 use mathlib.Core.Bool.{Bool}

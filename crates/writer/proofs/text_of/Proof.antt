@@ -5,7 +5,7 @@ use Prim.Native.Nat.{_-_}
 use mathlib.Core.Path.{refl}
 use Rattle.text.proofs.Overwrites.{writes-as}
 use Rattle.theory.proofs.Legal.Sound.{sound-head}
-use Rattle.pages.specs.Reports.{bookText}
+use Rattle.reports.specs.Reports.{bookText}
 use Rattle.lines.proofs.Adding.{adds-writes}
 use Rattle.lines.proofs.Rounds.{Rounds, rounds-none, rounds-room, rounds-more, rounds-all, rounds-length}
 use Rattle.writer.proofs.Sheets.{firstLines, lines-pieces, text-lines, lines-room}

@@ -2,7 +2,7 @@
 use borrow.Author.Needs.{needs}
 use native.Mathlib.Omega.{arith}
 use Rattle.rule.specs.Books.{Sound}
-use Rattle.pages.specs.Reads.{Written}
+use Rattle.reports.specs.Reads.{Written}
 use Rattle.book.specs.Checks.{figureOf}
 use Rattle.book.proofs.Checks.{passed-sound, handed-on}
 use Rattle.writer.proofs.Sheets.{sound-text-size}

@@ -1,0 +1,1 @@
+// What the definitions of crate reports come to: theorems in proofs/. No code.
