@@ -18,7 +18,7 @@ use Rattle.rule.proofs.Determined.{first-bad-unsound}
 use Rattle.book.specs.declared.Checked.{Checked}
 use Rattle.book.specs.declared.Checked.the-variants.{Fine, Refused}
 use Rattle.book.specs.Scan.{HeadFine, FirstEdge, Scanned}
-use Rattle.book.specs.Checks.{Holds, Found, edgeChecks}
+use Rattle.book.specs.Checks.{HoldsForests, FoundBy, edgeChecks}
 
 -- ---- more checks behind
 
@@ -37,17 +37,17 @@ fail-later (c ∷ cs) ds r p f = inr (p .0, fail-later cs ds r (p .1) f)
 
 module _ (cs ds : List Check) (more other : Type 0) where
   -- a refusal by the first ones is passed straight out
-  pub refused-first : (c : Checked) (r : Reason) → c ≡ Refused r → Found cs more c → Found (cs ++ ds) other c
-  refused-first c r q f = subst (Found (cs ++ ds) other) (sym q) (fail-first cs ds r (subst (Found cs more) q f))
+  pub refused-first : (c : Checked) (r : Reason) → c ≡ Refused r → FoundBy cs more c → FoundBy (cs ++ ds) other c
+  refused-first c r q f = subst (FoundBy (cs ++ ds) other) (sym q) (fail-first cs ds r (subst (FoundBy cs more) q f))
 
   -- the first ones pass, and the others answer
-  pub answered-later : (c : Checked) → c ≡ Fine → Found cs more c → (e : Checked) → Found ds other e → Found (cs ++ ds) more e
+  pub answered-later : (c : Checked) → c ≡ Fine → FoundBy cs more c → (e : Checked) → FoundBy ds other e → FoundBy (cs ++ ds) more e
   answered-later c q f = go
     where
       passed : Pass cs × more
-      passed = subst (Found cs more) q f
+      passed = subst (FoundBy cs more) q f
 
-      go : (e : Checked) → Found ds other e → Found (cs ++ ds) more e
+      go : (e : Checked) → FoundBy ds other e → FoundBy (cs ++ ds) more e
       go Fine g = (pass-both cs ds (passed .0) (g .0), passed .1)
       go (Refused r) g = fail-later cs ds r (passed .0) g
 
@@ -71,7 +71,7 @@ module _ (B : Book) where
       })
 
   module _ (head : HeadRule B) (root way who edge size : List ℕ) where
-    pub good-book : (place : ℕ) → place ≡ 0 → Scanned B place root way who edge size → Pass (bookChecks B) × Holds B root way who edge size
+    pub good-book : (place : ℕ) → place ≡ 0 → Scanned B place root way who edge size → Pass (bookChecks B) × HoldsForests B root way who edge size
     unfolding Sound Obeys
     good-book place q s =
         let found = subst (λ (z : ℕ). Scanned B z root way who edge size) q s in
@@ -92,18 +92,18 @@ module _ (B : Book) where
 
 -- ---- the checks alone
 
-pub found-alone : (cs : List Check) (more : Type 0) (c : Checked) → Found cs more c → Found cs Unit c
+pub found-alone : (cs : List Check) (more : Type 0) (c : Checked) → FoundBy cs more c → FoundBy cs Unit c
 found-alone cs more Fine f = (f .0, tt)
 found-alone cs more (Refused r) f = f
 
-pub passed : (cs : List Check) (more : Type 0) (c : Checked) → c ≡ Fine → Found cs more c → Pass cs × more
-passed cs more c q f = subst (Found cs more) q f
+pub passed : (cs : List Check) (more : Type 0) (c : Checked) → c ≡ Fine → FoundBy cs more c → Pass cs × more
+passed cs more c q f = subst (FoundBy cs more) q f
 
-pub passed-sound : (B : Book) (c : Checked) → c ≡ Fine → Found (bookChecks B) Unit c → Sound B
+pub passed-sound : (B : Book) (c : Checked) → c ≡ Fine → FoundBy (bookChecks B) Unit c → Sound B
 passed-sound B c q f = passed (bookChecks B) Unit c q f .0 .0
 
 -- a refusal that a call hands on in its own kind of answer
 pub handed-on : {A : Type 0} (B : Book) (P : A → Type 0) (answer : Checked → A) → ((r : Reason) → Fail (bookChecks B) r → P (answer (Refused r)))
-    → (c : Checked) (r : Reason) → c ≡ Refused r → Found (bookChecks B) Unit c → (x : A) → x ≡ answer c → P x
+    → (c : Checked) (r : Reason) → c ≡ Refused r → FoundBy (bookChecks B) Unit c → (x : A) → x ≡ answer c → P x
 handed-on B P answer says c r q f x is =
-    subst P (sym (is ∙ ap answer q)) (says r (subst (Found (bookChecks B) Unit) q f))
+    subst P (sym (is ∙ ap answer q)) (says r (subst (FoundBy (bookChecks B) Unit) q f))

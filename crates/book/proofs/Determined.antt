@@ -20,7 +20,7 @@ use Rattle.theory.proofs.Legal.Sound.{sound-head, sound-legal}
 use Rattle.book.specs.declared.Opened.{Opened}
 use Rattle.book.specs.declared.Checked.{Checked}
 use Rattle.book.specs.declared.Checked.the-variants.{Fine, Refused}
-use Rattle.book.specs.Checks.{Found}
+use Rattle.book.specs.Checks.{FoundBy}
 
 -- ---- any two outcomes agree
 
@@ -39,7 +39,7 @@ pub verdicts-agree : (B : Book) (x y : Judged) → Judge B x → Judge B y → x
 verdicts-agree = judge-determined
 
 -- two answers of the same checks, with any claims on what more is so
-pub checks-agree : (cs : List Check) → Single cs → (more other : Type 0) (x y : Checked) → Found cs more x → Found cs other y → x ≡ y
+pub checks-agree : (cs : List Check) → Single cs → (more other : Type 0) (x y : Checked) → FoundBy cs more x → FoundBy cs other y → x ≡ y
 checks-agree cs single more other Fine Fine p q = refl
 checks-agree cs single more other Fine (Refused r) p q = absurd (pass-not-fail cs r (p .0) q)
 checks-agree cs single more other (Refused r) Fine p q = absurd (pass-not-fail cs r (q .0) p)

@@ -13,11 +13,11 @@ use Rattle.rule.proofs.Tests.{eq-is, put-id}
 use Rattle.theory.specs.Joined.{joined}
 use Rattle.tables.specs.Tables.{label, Tabled}
 use Rattle.planting.specs.Calls.{Addable, Added}
-use Rattle.book.specs.Scan.{Plantable, Planted}
+use Rattle.book.specs.Scan.{Plantable, EdgePlanted}
 
 module _ (u v forest e : ℕ) (root way who edge size : List ℕ) (p : Plantable u v forest root way who edge size) where
   -- an edge with no forest
-  pub nowhere : forest ≡ 0 → Planted u v forest e root way who edge size root way who edge size true
+  pub nowhere : forest ≡ 0 → EdgePlanted u v forest e root way who edge size root way who edge size true
   nowhere q =
       record {
         sized = p .sized;
@@ -35,7 +35,7 @@ module _ (u v forest e : ℕ) (root way who edge size : List ℕ) (p : Plantable
 
     -- its ends have one label
     pub closing : (r : Bool) → r ≡ (label root forest u =? label root forest v) → r ≡ true
-        → Planted u v forest e root way who edge size root way who edge size false
+        → EdgePlanted u v forest e root way who edge size root way who edge size false
     closing r says q =
         record {
           sized = p .sized;
@@ -61,7 +61,7 @@ module _ (u v forest e : ℕ) (root way who edge size : List ℕ) (p : Plantable
           }
 
       pub planted : (root′ way′ who′ edge′ size′ : List ℕ) → Added forest u v e root way who edge size root′ way′ who′ edge′ size′
-          → Planted u v forest e root way who edge size root′ way′ who′ edge′ size′ true
+          → EdgePlanted u v forest e root way who edge size root′ way′ who′ edge′ size′ true
       planted root′ way′ who′ edge′ size′ a =
           record {
             sized = a .sized;

@@ -24,7 +24,7 @@ use Rattle.tables.specs.Tables.{label, filled, Tabled}
 use Rattle.planting.specs.Calls.{Sized}
 use Rattle.planting.proofs.Few.{room-left}
 use Rattle.labels.specs.Labels.{Begun}
-use Rattle.book.specs.Scan.{EdgeFine, Permits, Plantable, Planted, Cleared, FirstEdge, Scanned}
+use Rattle.book.specs.Scan.{EdgeFine, Permits, Plantable, EdgePlanted, Cleared, FirstEdge, Scanned}
 use Rattle.book.proofs.Edges.{permits-most}
 use Rattle.book.proofs.UpTo.{upTo, upto-past, upto-most, upto-stands, upto-below, below-upto, upto-more, tabled-none, tabled-all}
 
@@ -158,7 +158,7 @@ module _ (B : Book) (e : ℕ) (root way who edge size : List ℕ) (inv : Scannin
           }
 
       module _ (root′ way′ who′ edge′ size′ : List ℕ) (answer : Bool)
-          (out : Planted (getD (B .ones) e 0) (getD (B .others) e 0) (getD (B .forests) e 0) (e + 1) root way who edge size root′ way′ who′ edge′ size′ answer) where
+          (out : EdgePlanted (getD (B .ones) e 0) (getD (B .others) e 0) (getD (B .forests) e 0) (e + 1) root way who edge size root′ way′ who′ edge′ size′ answer) where
         -- the edge closes a loop: a chain of smaller edges of its forest joins its ends
         pub stops : not answer ≡ true → Scanned B (e + 1) root′ way′ who′ edge′ size′
         unfolding at
@@ -174,7 +174,7 @@ module _ (B : Book) (e : ℕ) (root way who edge size : List ℕ) (inv : Scannin
             → Tabled (designOf B) (upTo (forestOf B) (suc e)) root′ way′ who′ edge′ size′ × (1 ≤ f → ¬ (Is (joined (designOf B) (inForest so-far f) u v)))
         unfolding designOf at
         more-tables h =
-            let p = subst (λ (z : ℕ). Planted u v f z root way who edge size root′ way′ who′ edge′ size′ answer) (add-one e) out in
+            let p = subst (λ (z : ℕ). EdgePlanted u v f z root way who edge size root′ way′ who′ edge′ size′ answer) (add-one e) out in
             let new = p .tabled h (designOf B) so-far edge-next (upto-past (forestOf B) e (suc e) (omega arith)) refl refl (inv .tabled) in
             (subst (λ (g : ℕ → ℕ). Tabled (designOf B) g root′ way′ who′ edge′ size′) (sym (upto-more (forestOf B) e)) (new .0), new .1)
 

@@ -15,14 +15,14 @@ use Rattle.planting.specs.Calls.{Sized}
 use Rattle.book.specs.declared.Checked.{Checked}
 
 -- the tables hold the book's forests
-pub record Holds (B : Book) (root way who edge size : List ℕ) : Type 0 where
+pub record HoldsForests (B : Book) (root way who edge size : List ℕ) : Type 0 where
   pub sized : Sized root way who edge size
   pub tabled : Tabled (designOf B) (forestOf B) root way who edge size
 
 -- all of the checks pass, and `more` is so; or the reason is what the first check that fails says
-abbrev pub Found : List Check → (more : Type 0) → Checked → Type 0
-Found checks more Checked.Fine = Pass checks × more
-Found checks more (Checked.Refused reason) = Fail checks reason
+abbrev pub FoundBy : List Check → (more : Type 0) → Checked → Type 0
+FoundBy checks more Checked.Fine = Pass checks × more
+FoundBy checks more (Checked.Refused reason) = Fail checks reason
 
 -- the checks 5, 3, 4, 7 of an offered edge and the lent list
 abbrev pub edgeChecks : (n : ℕ) → Edge → List ℕ → List Check

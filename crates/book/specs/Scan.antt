@@ -45,7 +45,7 @@ pub record Plantable (u v forest : ℕ) (root way who edge size : List ℕ) : Ty
   pub sized : Sized root way who edge size
 
 -- the tables hold the forests with edge e in this one; or its ends were joined there already
-pub record Planted (u v forest e : ℕ) (root way who edge size root′ way′ who′ edge′ size′ : List ℕ) (fine : Bool) : Type 0 where
+pub record EdgePlanted (u v forest e : ℕ) (root way who edge size root′ way′ who′ edge′ size′ : List ℕ) (fine : Bool) : Type 0 where
   pub sized : Sized root′ way′ who′ edge′ size′
   pub tabled : Is fine → (d : Design) (forests : ℕ → ℕ) → In (d .m) e → forests e ≡ 0 → d .one e ≡ u → d .other e ≡ v
       → Tabled d forests root way who edge size
@@ -61,8 +61,8 @@ pub record Cleared (size : List ℕ) : Type 0 where
   pub none : (f : ℕ) → In 6 f → filled size f ≡ 0
 
 -- the book with this head and these places
-abbrev pub bookOf : (a b n count : ℕ) (ones others colours forests : List ℕ) → Book
-bookOf a b n count ones others colours forests =
+abbrev pub scannedBook : (a b n count : ℕ) (ones others colours forests : List ℕ) → Book
+scannedBook a b n count ones others colours forests =
     record { a = a; b = b; n = n; count = count; ones = ones; others = others; colours = colours; forests = forests }
 
 pub record Scannable (B : Book) (root way who edge size : List ℕ) : Type 0 where

@@ -23,8 +23,8 @@ ghost use Rattle.rule.specs.Books.{ColourRange, theEdge};
 ghost use Rattle.rule.specs.Reasons.{questionChecks, offerChecks, bookChecks};
 ghost use Rattle.rule.specs.Calls.{newBook, Open};
 ghost use Rattle.planting.specs.Calls.{Sized};
-ghost use Rattle.book.specs.Checks.{edgeChecks, Holds, Found};
-ghost use Rattle.book.specs.Scan.{HeadFine, Permits, EdgeFine, Plantable, Planted, Cleared, bookOf, Scannable, Scanned};
+ghost use Rattle.book.specs.Checks.{edgeChecks, HoldsForests, FoundBy};
+ghost use Rattle.book.specs.Scan.{HeadFine, Permits, EdgeFine, Plantable, EdgePlanted, Cleared, scannedBook, Scannable, Scanned};
 use rule::Book;
 use rule::Done;
 use rule::Reason;
@@ -145,7 +145,7 @@ fn plant(
     size: &mut [u8; 6],
 ) -> bool
     requires { ⌜ Plantable u v forest (now root) (now way) (now who) (now edge) (now size) ⌝ }
-    ensures { λ r. ⌜ Planted u v forest e (now (root .entry)) (now (way .entry)) (now (who .entry)) (now (edge .entry)) (now (size .entry)) (now (root .exit)) (now (way .exit)) (now (who .exit)) (now (edge .exit)) (now (size .exit)) r ⌝ }
+    ensures { λ r. ⌜ EdgePlanted u v forest e (now (root .entry)) (now (way .entry)) (now (who .entry)) (now (edge .entry)) (now (size .entry)) (now (root .exit)) (now (way .exit)) (now (who .exit)) (now (edge .exit)) (now (size .exit)) r ⌝ }
 {
     if forest == 0 {
         return true;
@@ -188,8 +188,8 @@ pub fn scan<'a>(
     edge: &mut [u16; 384],
     size: &mut [u8; 6],
 ) -> u16
-    requires { ⌜ Scannable (bookOf a b n count (now ones) (now others) (now colours) (now forests)) (now root) (now way) (now who) (now edge) (now size) ⌝ }
-    ensures { λ r. ⌜ Scanned (bookOf a b n count (now (ones .entry)) (now (others .entry)) (now (colours .entry)) (now (forests .entry))) r (now (root .exit)) (now (way .exit)) (now (who .exit)) (now (edge .exit)) (now (size .exit)) ⌝ }
+    requires { ⌜ Scannable (scannedBook a b n count (now ones) (now others) (now colours) (now forests)) (now root) (now way) (now who) (now edge) (now size) ⌝ }
+    ensures { λ r. ⌜ Scanned (scannedBook a b n count (now (ones .entry)) (now (others .entry)) (now (colours .entry)) (now (forests .entry))) r (now (root .exit)) (now (way .exit)) (now (who .exit)) (now (edge .exit)) (now (size .exit)) ⌝ }
 {
     labels::begin(root, who);
     clear(size);
@@ -231,7 +231,7 @@ pub fn sound(
     size: &mut [u8; 6],
 ) -> Checked
     requires { ⌜ Sized (now root) (now way) (now who) (now edge) (now size) ⌝ }
-    ensures { λ r. ⌜ Found (bookChecks book) (Holds book (now (root .exit)) (now (way .exit)) (now (who .exit)) (now (edge .exit)) (now (size .exit))) r ⌝ }
+    ensures { λ r. ⌜ FoundBy (bookChecks book) (HoldsForests book (now (root .exit)) (now (way .exit)) (now (who .exit)) (now (edge .exit)) (now (size .exit))) r ⌝ }
 {
     let a = book.a;
     let b = book.b;
@@ -269,7 +269,7 @@ fn coloured(colour: usize) -> bool
 
 // The checks 5, 3, 4 and 7 of an edge that is offered to a book of n bodies, with a list of so many places.
 fn asked(n: u8, u: usize, v: usize, colour: usize, places: usize) -> Checked
-    ensures { λ r. ⌜ ((list : List ℕ) → length list ≡ places → Found (edgeChecks n (theEdge u v colour) list) Unit r) ⌝ }
+    ensures { λ r. ⌜ ((list : List ℕ) → length list ≡ places → FoundBy (edgeChecks n (theEdge u v colour) list) Unit r) ⌝ }
 {
     if !coloured(colour) {
         return Checked::Refused(Reason::Colour);
@@ -300,7 +300,7 @@ pub fn question_checks(
     size: &mut [u8; 6],
 ) -> Checked
     requires { ⌜ Sized (now root) (now way) (now who) (now edge) (now size) ⌝ }
-    ensures { λ r. ⌜ ((list : List ℕ) → length list ≡ places → Found (questionChecks book (theEdge u v colour) list) (Holds book (now (root .exit)) (now (way .exit)) (now (who .exit)) (now (edge .exit)) (now (size .exit))) r) ⌝ }
+    ensures { λ r. ⌜ ((list : List ℕ) → length list ≡ places → FoundBy (questionChecks book (theEdge u v colour) list) (HoldsForests book (now (root .exit)) (now (way .exit)) (now (who .exit)) (now (edge .exit)) (now (size .exit))) r) ⌝ }
 {
     let c = sound(book, root, way, who, edge, size);
     let Checked::Fine = c else {
@@ -324,7 +324,7 @@ pub fn offer_checks(
     size: &mut [u8; 6],
 ) -> Checked
     requires { ⌜ Sized (now root) (now way) (now who) (now edge) (now size) ⌝ }
-    ensures { λ r. ⌜ ((list : List ℕ) → length list ≡ places → Found (offerChecks book (theEdge u v colour) list) (Holds book (now (root .exit)) (now (way .exit)) (now (who .exit)) (now (edge .exit)) (now (size .exit))) r) ⌝ }
+    ensures { λ r. ⌜ ((list : List ℕ) → length list ≡ places → FoundBy (offerChecks book (theEdge u v colour) list) (HoldsForests book (now (root .exit)) (now (way .exit)) (now (who .exit)) (now (edge .exit)) (now (size .exit))) r) ⌝ }
 {
     let c = question_checks(book, u, v, colour, places, root, way, who, edge, size);
     let Checked::Fine = c else {
@@ -339,7 +339,7 @@ pub fn offer_checks(
 
 // Check 8 alone, with tables of its own.
 pub fn sound_alone(book: Book) -> Checked
-    ensures { λ r. ⌜ Found (bookChecks book) Unit r ⌝ }
+    ensures { λ r. ⌜ FoundBy (bookChecks book) Unit r ⌝ }
 {
     let mut root = [0u8; 384];
     let mut way = [0u64; 384];

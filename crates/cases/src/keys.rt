@@ -14,7 +14,7 @@ pub struct Told {
 }
 
 // A key that was found: its letter, or 0; the place past it; and how many numbers are due there.
-struct Found {
+struct KeyFound {
     letter: u8,
     past: usize,
     numbers: usize,
@@ -44,7 +44,7 @@ fn digit(x: u8) -> usize {
 }
 
 // The key of a line in a table.
-fn key_in(table: &[u8], line: &[u8]) -> Found {
+fn key_in(table: &[u8], line: &[u8]) -> KeyFound {
     let mut left = table.len() / 8;
     while 0 < left {
         left -= 1;
@@ -52,14 +52,14 @@ fn key_in(table: &[u8], line: &[u8]) -> Found {
         let row = &table[at..];
         let past = past_key(line, row);
         if 0 < past {
-            return Found {
+            return KeyFound {
                 letter: byte(row, 0),
                 past: past,
                 numbers: digit(byte(row, 7)),
             };
         }
     }
-    Found {
+    KeyFound {
         letter: 0,
         past: 0,
         numbers: 0,
@@ -108,7 +108,7 @@ fn with(told: Told, i: usize, x: usize) -> Told {
 }
 
 // The key's numbers, and then the line's end.
-fn numbers(line: &[u8], found: Found) -> Told {
+fn numbers(line: &[u8], found: KeyFound) -> Told {
     let due = found.numbers;
     let mut told = only(found.letter);
     let mut at = found.past;

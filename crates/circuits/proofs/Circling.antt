@@ -20,8 +20,8 @@ use Rattle.theory.proofs.Laws.Twin.{twin-circuit, free-circuit}
 use Rattle.book.proofs.Figures.{placed, kept-placed}
 use Rattle.moving.proofs.Walking.{at-place}
 use Rattle.reaching.proofs.Laid.{laid-first}
-use Rattle.search.specs.Marks.{Written}
-use Rattle.engine.specs.Seek.{Seekable, Ends, Fails}
+use Rattle.search.specs.Marks.{MarksWritten}
+use Rattle.engine.specs.Seek.{Seekable, EndsIn, Fails}
 use Rattle.engine.proofs.Says.{found-says, stuck-says}
 use Rattle.circuits.specs.Listable.{Listable, HoldsCircuit}
 
@@ -64,8 +64,8 @@ module _ (B : Book) (e : ℕ) {root way edge : List ℕ} (l : Listable B e root 
             (sym (ap (take n) fills ∙ take-at circuit (drop (length circuit) list) n (sym counts))) c;
       }
 
-  pub found-holds : (path : List ℕ) (p f : ℕ) → Ends B (theEdge (getD (B .ones) (e - 1) 0) (getD (B .others) (e - 1) 0) (getD (B .colours) (e - 1) 0)) path p f
-      → (list listed : List ℕ) (n : ℕ) → Written list 0 (numbers (placed (B .forests)) (B .count)) listed n → HoldsCircuit B e listed n
+  pub found-holds : (path : List ℕ) (p f : ℕ) → EndsIn B (theEdge (getD (B .ones) (e - 1) 0) (getD (B .others) (e - 1) 0) (getD (B .colours) (e - 1) 0)) path p f
+      → (list listed : List ℕ) (n : ℕ) → MarksWritten list 0 (numbers (placed (B .forests)) (B .count)) listed n → HoldsCircuit B e listed n
   unfolding designOf
   found-holds path p f ended list listed n w =
       let s = asks in

@@ -15,7 +15,7 @@ use Rattle.theory.proofs.Laws.Transport.{count-into}
 use Rattle.reaching.specs.Laid.{Laid}
 use Rattle.reaching.proofs.Laid.{laid-none, laid-length, laid-more}
 use Rattle.reaching.proofs.Numbers.{numbers-in, numbers-out}
-use Rattle.search.specs.Marks.{Written}
+use Rattle.search.specs.Marks.{MarksWritten}
 use Rattle.book.proofs.Figures.{placed}
 
 -- further on there are no fewer
@@ -33,16 +33,16 @@ unfolding at
 has-none forests e q t = omega (arith, lt-of 0 (getD forests e 0) t)
 
 module _ (s : Set) where
-  pub none-listed : (before : List ℕ) → Written before 0 (numbers s 0) before 0
+  pub none-listed : (before : List ℕ) → MarksWritten before 0 (numbers s 0) before 0
   unfolding numbers
   none-listed before = record { laid = laid-none before 0 (omega arith); counts = refl }
 
-  module _ (e : ℕ) {before now : List ℕ} {n : ℕ} (w : Written before 0 (numbers s e) now n) where
+  module _ (e : ℕ) {before now : List ℕ} {n : ℕ} (w : MarksWritten before 0 (numbers s e) now n) where
     pub as-long : length now ≡ length before
     as-long = laid-length (w .laid)
 
-    pub next-out : ¬ (Is (s (suc e))) → Written before 0 (numbers s (e + 1)) now n
-    next-out not = subst (λ (l : List ℕ). Written before 0 l now n) (sym (ap (numbers s) (add-one e) ∙ numbers-out s e not)) w
+    pub next-out : ¬ (Is (s (suc e))) → MarksWritten before 0 (numbers s (e + 1)) now n
+    next-out not = subst (λ (l : List ℕ). MarksWritten before 0 l now n) (sym (ap (numbers s) (add-one e) ∙ numbers-out s e not)) w
 
     module _ (t : Is (s (suc e))) (m : ℕ) (further : e < m) (room : count s m ≤ length before) where
       pub room-for-next : n < length before
@@ -57,12 +57,12 @@ module _ (s : Set) where
             count-further s (suc e) m (omega arith),
           )
 
-      pub next-in : Written before 0 (numbers s (e + 1)) (set now n (e + 1)) (n + 1)
+      pub next-in : MarksWritten before 0 (numbers s (e + 1)) (set now n (e + 1)) (n + 1)
       next-in =
-          subst (λ (z : ℕ). Written before 0 (numbers s z) (set now n z) (n + 1)) (sym (add-one e))
-          (subst (λ (l : List ℕ). Written before 0 l (set now n (suc e)) (n + 1)) (sym (numbers-in s e t)) longer)
+          subst (λ (z : ℕ). MarksWritten before 0 (numbers s z) (set now n z) (n + 1)) (sym (add-one e))
+          (subst (λ (l : List ℕ). MarksWritten before 0 l (set now n (suc e)) (n + 1)) (sym (numbers-in s e t)) longer)
         where
-          longer : Written before 0 (numbers s e ++ (suc e ∷ [])) (set now n (suc e)) (n + 1)
+          longer : MarksWritten before 0 (numbers s e ++ (suc e ∷ [])) (set now n (suc e)) (n + 1)
           longer =
               record {
                 laid =

@@ -6,7 +6,7 @@ ghost use Prim.Native.Nat.{_≤_};
 ghost use lib.ListN.{length};
 ghost use Rattle.rule.specs.Sets.{_<?_, count as counted, at, numbers};
 ghost use Rattle.rule.specs.Books.{designOf, keptOf};
-ghost use Rattle.search.specs.Marks.{Written};
+ghost use Rattle.search.specs.Marks.{MarksWritten};
 ghost use Rattle.reports.specs.Reports.{ImpliedLine};
 ghost use Rattle.reports.specs.Steps.{lineRoom, Puts};
 ghost use Rattle.circuits.specs.Listable.{Listable, HoldsCircuit};
@@ -16,7 +16,7 @@ use rule::Book;
 // The numbers of the edges that have a forest, smallest first, in the first places of the list, and how many they are.
 fn all_kept(count: u16, forests: &[u8; 512], list: &mut [u16]) -> usize
     requires { ⌜ (count ≤ 512) × (counted (λ e. 0 <? at (now forests) e) count ≤ length (now list)) ⌝ }
-    ensures { λ r. ⌜ Written (now (list .entry)) 0 (numbers (λ e. 0 <? at (now (forests .entry)) e) count) (now (list .exit)) r ⌝ }
+    ensures { λ r. ⌜ MarksWritten (now (list .entry)) 0 (numbers (λ e. 0 <? at (now (forests .entry)) e) count) (now (list .exit)) r ⌝ }
 {
     let mut n: usize = 0;
     let mut e: u16 = 0;

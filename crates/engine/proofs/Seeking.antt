@@ -24,14 +24,14 @@ use Rattle.theory.proofs.Search.Reached.{Reached}
 use Rattle.theory.proofs.Search.Stages.{Ended, Turned, search-ends}
 use Rattle.tables.proofs.Longer.{tabled-longer}
 use Rattle.search.specs.declared.Outcome.{Outcome}
-use Rattle.reaching.specs.Setting.{Setting, Holds}
+use Rattle.reaching.specs.Setting.{Setting, HoldsWaiting}
 use Rattle.search.specs.Given.{IsEdge, Given, Sought}
 use Rattle.reaching.specs.Trying.{Comes}
 use Rattle.search.specs.Answers.{Answers, Searched}
-use Rattle.search.specs.Ends.{Led, Traced, Queued, Listed}
+use Rattle.search.specs.Ends.{Led, Traced, Queued, CircuitListed}
 use Rattle.reaching.proofs.Held.{held-few}
 use Rattle.moving.specs.Moves.{backward}
-use Rattle.engine.specs.Seek.{forestsFor, Seekable, Ends, Fails}
+use Rattle.engine.specs.Seek.{forestsFor, Seekable, EndsIn, Fails}
 use Rattle.engine.proofs.Says.{offered-ends, offered-arranged, offered-last, offered-unplaced, free}
 
 -- ---- the first places of an array, read backwards
@@ -118,7 +118,7 @@ module _ (B : Book) (given : Edge) {root way edge : List ℕ} (s : Seekable B (g
 
   -- what the search has come to, of the offered edge
   pub searched : (number : ℕ) (q : number ≡ suc (B .count)) (queue from : List ℕ) (o : Outcome) → Searched (sought number q .given) queue from o
-      → Answers (λ w. Holds w queue from) (search (offered B given) (forestsFor B) (next B)) o
+      → Answers (λ w. HoldsWaiting w queue from) (search (offered B given) (forestsFor B) (next B)) o
   unfolding sought is-given plus designOf
   searched number q queue from o r = r
 
@@ -127,7 +127,7 @@ module _ (B : Book) (given : Edge) {root way edge : List ℕ} (s : Seekable B (g
 
   -- ---- it ended
 
-  module _ (p f : ℕ) (queue from : List ℕ) (r : Comes (λ w. Holds w queue from) (found p f) (search (offered B given) (forestsFor B) (next B))) where
+  module _ (p f : ℕ) (queue from : List ℕ) (r : Comes (λ w. HoldsWaiting w queue from) (found p f) (search (offered B given) (forestsFor B) (next B))) where
     pub ended : Ended (offered B given) (forestsFor B) (next B) p f (r .waiting)
     ended =
         subst (Turned (offered B given) (forestsFor B) (next B) (d .m)) (r .is)
@@ -140,7 +140,7 @@ module _ (B : Book) (given : Edge) {root way edge : List ℕ} (s : Seekable B (g
     small-forest = omega (arith, ended .free .allowed .high, limit-most (offered B given) (edgeAt (r .waiting) p), setting .forests)
 
     pub ends-there : (path path′ : List ℕ) (n : ℕ) → length path ≡ 379 → Traced (r .waiting) p path path′ n
-        → Ends B given path′ n f × (length path′ ≡ 379)
+        → EndsIn B given path′ n f × (length path′ ≡ 379)
     ends-there path path′ n long t =
         let back = reverse (pathTo (r .waiting) p) in
         let as-many : length back ≡ n = length-reverse (pathTo (r .waiting) p) ∙ sym (t .counts) in
@@ -161,7 +161,7 @@ module _ (B : Book) (given : Edge) {root way edge : List ℕ} (s : Seekable B (g
   -- ---- it did not
 
   module _ (n : ℕ) (queue from : List ℕ)
-      (r : Comes (λ w. (n ≡ length (w .queue)) × Holds w queue from) going (search (offered B given) (forestsFor B) (next B))) where
+      (r : Comes (λ w. (n ≡ length (w .queue)) × HoldsWaiting w queue from) going (search (offered B given) (forestsFor B) (next B))) where
     pub stuck : Reached (offered B given) (forestsFor B) (next B) (r .waiting)
     stuck =
         stuck-reached (offered B given) (offered-ends B given (s .sound) (s .one) (s .other)) (forestsFor B)
@@ -182,7 +182,7 @@ module _ (B : Book) (given : Edge) {root way edge : List ℕ} (s : Seekable B (g
           queued = ap (λ (z : ℕ). take z queue) (r .holds .0) ∙ r .holds .1 .queued;
         }
 
-    pub fails-there : (list listed : List ℕ) (len : ℕ) → length listed ≡ length list → Listed (waits .w) (waits .d .m) n list listed len
+    pub fails-there : (list listed : List ℕ) (len : ℕ) → length listed ≡ length list → CircuitListed (waits .w) (waits .d .m) n list listed len
         → Fails B given list listed len × (len < 65536)
     unfolding waits plus designOf
     fails-there list listed len long l = (

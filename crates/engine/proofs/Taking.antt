@@ -25,7 +25,7 @@ use Rattle.theory.proofs.Legal.Sound.{sound-head}
 use Rattle.tables.specs.Tables.{Tabled}
 use Rattle.tables.proofs.Longer.{tabled-longer}
 use Rattle.moving.specs.Moves.{backward, Drawn, Replanting, Replanted}
-use Rattle.engine.specs.Seek.{forestsFor, Seekable, Ends, Fails}
+use Rattle.engine.specs.Seek.{forestsFor, Seekable, EndsIn, Fails}
 use Rattle.engine.specs.Take.{Full, Entered, Takeable, Takes}
 use Rattle.engine.proofs.After.{one-after, other-after, design-after}
 use Rattle.engine.proofs.Says.{offered-ends, offered-arranged, start, free, old-path, found-says, stuck-says}
@@ -130,7 +130,7 @@ module _ (B : Book) (given : Edge) {list root way who edge size : List ℕ} (t :
 
     -- ---- it is kept
 
-    module _ (path : List ℕ) (n f : ℕ) (e : Ends B given path n f) where
+    module _ (path : List ℕ) (n f : ℕ) (e : EndsIn B given path n f) where
       abbrev goes : List ℕ
       goes = pathTo (e .waiting) (e .place)
 

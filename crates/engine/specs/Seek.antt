@@ -43,7 +43,7 @@ pub record Seekable (B : Book) (u v : ℕ) (root way edge : List ℕ) : Type 0 w
   pub tabled : Tabled (designOf B) (forestOf B) root way who edge size
 
 -- the search ended in forest f, and the first n places of an array hold the path to its end, last edge first
-pub record Ends (B : Book) (given : Edge) (path : List ℕ) (n f : ℕ) : Type 0 where
+pub record EndsIn (B : Book) (given : Edge) (path : List ℕ) (n f : ℕ) : Type 0 where
   pub waiting : Waiting
   pub place : ℕ
   pub is-found : search (offered B given) (forestsFor B) (next B) ≡ found place f waiting
@@ -61,5 +61,5 @@ pub record Fails (B : Book) (given : Edge) (list listed : List ℕ) (n : ℕ) : 
 
 -- what seeking answers and leaves in the arrays
 abbrev pub Seeks : Book → (given : Edge) (list path′ listed : List ℕ) → Place → Type 0
-Seeks B given list path′ listed (Found n f) = Ends B given path′ n f × (listed ≡ list)
+Seeks B given list path′ listed (Found n f) = EndsIn B given path′ n f × (listed ≡ list)
 Seeks B given list path′ listed (Stuck n) = Fails B given list listed n

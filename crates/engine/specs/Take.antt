@@ -31,7 +31,7 @@ pub record Entered (edges : ℕ) (given : Edge) (ones others colours forests one
   pub nowhere : forests′ ≡ set forests edges 0
 
 -- the tables hold the forests of the book
-pub record Ready (B : Book) (root way who edge size : List ℕ) : Type 0 where
+pub record TablesReady (B : Book) (root way who edge size : List ℕ) : Type 0 where
   pub tabled : Tabled (designOf B) (forestOf B) root way who edge size
   pub sized : Sized root way who edge size
   pub full : Full B
@@ -39,9 +39,9 @@ pub record Ready (B : Book) (root way who edge size : List ℕ) : Type 0 where
 -- the edge passes the checks of an offer
 pub record Takeable (B : Book) (given : Edge) (list root way who edge size : List ℕ) : Type 0 where
   pub checked : Pass (offerChecks B given list)
-  pub ready : Ready B root way who edge size
+  pub ready : TablesReady B root way who edge size
 
 -- it has been offered, and the tables hold the forests of the book as it is now
 pub record Takes (before after : Book) (given : Edge) (list listed root′ way′ who′ edge′ size′ : List ℕ) (answer : Answer) : Type 0 where
   pub offer : Offer before after given list listed answer
-  pub ready : Ready after root′ way′ who′ edge′ size′
+  pub ready : TablesReady after root′ way′ who′ edge′ size′

@@ -14,7 +14,7 @@ use Rattle.rule.specs.declared.Reason.{Reason}
 use Rattle.rule.specs.declared.Reason.the-variants.{Line}
 use Rattle.rule.specs.Reasons.{Check, Pass, Fail}
 use Rattle.rule.proofs.Determined.{Single, fail-determined, pass-not-fail}
-use Rattle.grammar.specs.Grammar.{firstLine, DueLine, Grammar, Next, Leads, Faulty, Fault, FirstFault, Whole}
+use Rattle.grammar.specs.Grammar.{firstLine, DueLine, Grammar, NextIs, Leads, Faulty, Fault, FirstFault, Whole}
 use Rattle.grammar.specs.Grammar.Leads.{here, one-line}
 use Rattle.grammar.specs.Grammar.AtFault.{other, fails}
 use Rattle.grammar.proofs.Runs.{Stands, stands-first, stands-on, stands-fault}
@@ -23,12 +23,12 @@ use Rattle.grammar.proofs.Runs.{Stands, stands-first, stands-on, stands
 
 -- the line at a place of a text is the one due, and ends at a later place, or it is not
 pub data LineAt {Said : Type 0} (d : DueLine Said) (text : List ℕ) (at : ℕ) : Type 0 where
-  is-due : (value : d .Value) (place : ℕ) → Next d (drop at text) value (drop place text) → at < place → place ≤ length text → LineAt d text at
-  is-other : ((value : d .Value) (more : List ℕ) → ¬ Next d (drop at text) value more) → LineAt d text at
+  is-due : (value : d .Value) (place : ℕ) → NextIs d (drop at text) value (drop place text) → at < place → place ≤ length text → LineAt d text at
+  is-other : ((value : d .Value) (more : List ℕ) → ¬ NextIs d (drop at text) value more) → LineAt d text at
 
 -- two readings of one line are the same
 abbrev pub Determined : {Said : Type 0} → DueLine Said → Type 0
-Determined d = (rest : List ℕ) (x y : d .Value) (r q : List ℕ) → Next d rest x r → Next d rest y q → (x ≡ y) × (r ≡ q)
+Determined d = (rest : List ℕ) (x y : d .Value) (r q : List ℕ) → NextIs d rest x r → NextIs d rest y q → (x ≡ y) × (r ≡ q)
 
 pub data PassOrFail (cs : List Check) : Type 0 where
   passes : Pass cs → PassOrFail cs
@@ -42,7 +42,7 @@ pub record Lawful (g : Grammar) : Type 0 where
   pub single : (said : g .Said) (value : g .due said .Value) → Single (g .due said .checks value)
   pub ended? : (said : g .Said) (rest : List ℕ) → Dec (g .Ended said rest)
   pub ended-none : (said : g .Said) (rest : List ℕ) → g .Ended said rest → (value : g .due said .Value) (more : List ℕ)
-      → ¬ Next (g .due said) rest value more
+      → ¬ NextIs (g .due said) rest value more
 
 -- whole, or a first fault
 abbrev pub Outcome : Grammar → List ℕ → Type 0
@@ -52,7 +52,7 @@ module _ (g : Grammar) (law : Lawful g) where
   -- ---- two runs that end stuck end alike
 
   abbrev Stuck : g .Said → List ℕ → Type 0
-  Stuck said rest = (value : g .due said .Value) (more : List ℕ) → Next (g .due said) rest value more → ¬ Pass (g .due said .checks value)
+  Stuck said rest = (value : g .due said .Value) (more : List ℕ) → NextIs (g .due said) rest value more → ¬ Pass (g .due said .checks value)
 
   fault-stuck : (said : g .Said) (rest : List ℕ) (reason : Reason) → Faulty g said rest reason → Stuck said rest
   fault-stuck said rest reason (other none going) value more next pass = none value more next
@@ -120,7 +120,7 @@ module _ (g : Grammar) (law : Lawful g) where
       After : Type 0
       After = (value : g .due said .Value) (place : ℕ) → at < place → Stands g text place (g .due said .then value) → Outcome g text
 
-      by-check : (value : g .due said .Value) (place : ℕ) → Next (g .due said) (drop at text) value (drop place text) → at < place
+      by-check : (value : g .due said .Value) (place : ℕ) → NextIs (g .due said) (drop at text) value (drop place text) → at < place
           → place ≤ length text → After → PassOrFail (g .due said .checks value) → Outcome g text
       by-check value place next past within on (passes p) = on value place past (stands-on s value place next within p)
       by-check value place next past within on (fail reason f) = inr (_, stands-fault reason s (fails value (drop place text) next f))

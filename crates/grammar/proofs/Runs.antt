@@ -11,12 +11,12 @@ use native.Mathlib.Omega.{arith}
 use lib.ListN.{length, drop}
 use Rattle.rule.specs.declared.Reason.{Reason}
 use Rattle.rule.specs.Reasons.{Pass}
-use Rattle.grammar.specs.Grammar.{Grammar, Next, Leads, Faulty, FirstFault, faultIn, RefusedAt}
+use Rattle.grammar.specs.Grammar.{Grammar, NextIs, Leads, Faulty, FirstFault, faultIn, RefusedAt}
 use Rattle.grammar.specs.Grammar.Leads.{here, one-line}
 
 module _ {g : Grammar} where
   pub leads-more : {said last : g .Said} {rest left more : List ℕ} → Leads g said rest last left → (value : g .due last .Value)
-      → Next (g .due last) left value more → Pass (g .due last .checks value) → Leads g said rest (g .due last .then value) more
+      → NextIs (g .due last) left value more → Pass (g .due last .checks value) → Leads g said rest (g .due last .then value) more
   leads-more here value next pass = one-line value next pass here
   leads-more (one-line x n p l) value next pass = one-line x n p (leads-more l value next pass)
 
@@ -35,7 +35,7 @@ module _ {g : Grammar} {text : List ℕ} where
   stands-first = record { within = omega arith; leads = here }
 
   pub stands-on : {at : ℕ} {said : g .Said} → Stands g text at said → (value : g .due said .Value) (next : ℕ)
-      → Next (g .due said) (drop at text) value (drop next text) → next ≤ length text → Pass (g .due said .checks value)
+      → NextIs (g .due said) (drop at text) value (drop next text) → next ≤ length text → Pass (g .due said .checks value)
       → Stands g text next (g .due said .then value)
   stands-on s value next is l pass = record { within = l; leads = leads-more (s .leads) value is pass }
 

@@ -47,21 +47,21 @@ pub record Grammar : Type 1 where
 -- ---- reading
 
 -- rest begins with the line that is due, which says value; more follows it
-pub record Next {Said : Type 0} (line : DueLine Said) (rest : List ℕ) (value : line .Value) (more : List ℕ) : Type 0 where
+pub record NextIs {Said : Type 0} (line : DueLine Said) (rest : List ℕ) (value : line .Value) (more : List ℕ) : Type 0 where
   pub allowed : line .Allowed value
   pub begins : rest ≡ line .bytes value ++ more
 
 -- from what was said and the rest of a text, lines that are due and in range lead to what is then said and what then is left
 pub data Leads (g : Grammar) : g .Said → List ℕ → g .Said → List ℕ → Type 0 where
   here : {said : g .Said} {rest : List ℕ} → Leads g said rest said rest
-  one-line : {said last : g .Said} {rest more left : List ℕ} (value : g .due said .Value) → Next (g .due said) rest value more
+  one-line : {said last : g .Said} {rest more left : List ℕ} (value : g .due said .Value) → NextIs (g .due said) rest value more
       → Pass (g .due said .checks value) → Leads g (g .due said .then value) more last left → Leads g said rest last left
 
 -- the next line is at fault, where the text has not ended: it is not the one due (9, which comes first), or it is and a check on it
 -- fails
 pub data AtFault {Said : Type 0} (line : DueLine Said) (ended : Type 0) (rest : List ℕ) : Reason → Type 0 where
-  other : ((value : line .Value) (more : List ℕ) → ¬ Next line rest value more) → ¬ ended → AtFault line ended rest Line
-  fails : {reason : Reason} (value : line .Value) (more : List ℕ) → Next line rest value more → Fail (line .checks value) reason
+  other : ((value : line .Value) (more : List ℕ) → ¬ NextIs line rest value more) → ¬ ended → AtFault line ended rest Line
+  fails : {reason : Reason} (value : line .Value) (more : List ℕ) → NextIs line rest value more → Fail (line .checks value) reason
       → AtFault line ended rest reason
 
 -- the line after what was said is at fault

@@ -13,7 +13,7 @@ use Rattle.rule.specs.declared.Done.{Done}
 use Rattle.rule.specs.Sets.{Set, In, at}
 use Rattle.rule.specs.Legal.{Design, Ends, k}
 use Rattle.rule.specs.Forests.{limit, keptIn, Arranged}
-use Rattle.rule.specs.Figures.{Leads, Groups}
+use Rattle.rule.specs.Figures.{GroupLead, Groups}
 use Rattle.rule.specs.Books.{designOf, forestOf, Sound}
 use Rattle.rule.specs.Calls.{Grouped}
 use Rattle.rule.proofs.Places.{at-suc}
@@ -21,8 +21,8 @@ use Rattle.theory.specs.Closed.{greatest}
 use Rattle.theory.specs.Groups.{joinedInAll, rigidCore, core}
 use Rattle.theory.proofs.Legal.Sound.{sound-head, sound-ends, sound-arranged}
 use Rattle.theory.proofs.Groups.Share.{group-iff}
-use Rattle.groups.specs.Lent.{Lent, Coloured, Given, limits}
-use Rattle.groups.specs.Classes.{Listed, Classes}
+use Rattle.groups.specs.Lent.{Lent, Coloured, GroupsGiven, limits}
+use Rattle.groups.specs.Classes.{ClassesListed, Classes}
 
 -- ---- one limit for all
 
@@ -51,11 +51,11 @@ at-take n (suc u) list h = at-suc (take n list) u ∙ getD-take n list u 0 (h .h
 
 -- the list of the classes of `rigidCore` over all forests is the group list
 module _ (d : Design) (ends : Ends d) (forest : ℕ → ℕ) (arr : Arranged d forest) (some : 1 ≤ k d) (before after : List ℕ) (room : d .n ≤ length before)
-    (l : Listed (joinedInAll d forest (rigidCore d forest) (k d)) (d .n) before after) where
-  leads : (u : ℕ) → In (d .n) u → Leads d (keptIn d forest) u (at (take (d .n) after) u)
+    (l : ClassesListed (joinedInAll d forest (rigidCore d forest) (k d)) (d .n) before after) where
+  leads : (u : ℕ) → In (d .n) u → GroupLead d (keptIn d forest) u (at (take (d .n) after) u)
   leads u h =
       let lead = l .leads u h in
-      subst (Leads d (keptIn d forest) u) (sym (at-take (d .n) u after h))
+      subst (GroupLead d (keptIn d forest) u) (sym (at-take (d .n) u after h))
       (record {
         body = lead .body;
         in-group = group-iff d ends forest arr u (at after u) h (lead .body) some .1 (lead .is-near);
@@ -90,7 +90,7 @@ module _ (B : Book) (sound : Sound B) where
   unfolding designOf
   book-coloured = refl
 
-  pub book-given : Given (B .count) (B .ones) (B .others) (B .forests)
+  pub book-given : GroupsGiven (B .count) (B .ones) (B .others) (B .forests)
   book-given = record { design = designOf B; lent = book-lent; arranged = sound-arranged B sound }
 
   -- what `classes` lists with limit k, and over k forests, is what a call for the group list answers
@@ -100,9 +100,9 @@ module _ (B : Book) (sound : Sound B) where
   classes-grouped before after room j n at-j at-n c =
       let head = sound-head B sound in
       let d = designOf B in
-      let l : Listed (joinedInAll d (forestOf B) (rigidCore d (forestOf B)) (k d)) (B .n) before after =
-      subst (λ (s : Set). Listed (joinedInAll d (forestOf B) s (k d)) (B .n) before after) (rigid d (forestOf B))
-      (subst₂ (λ (j n : ℕ). Listed (joinedInAll d (forestOf B) (greatest d (forestOf B) (limits d j j)) j) n before after) at-j at-n
+      let l : ClassesListed (joinedInAll d (forestOf B) (rigidCore d (forestOf B)) (k d)) (B .n) before after =
+      subst (λ (s : Set). ClassesListed (joinedInAll d (forestOf B) s (k d)) (B .n) before after) (rigid d (forestOf B))
+      (subst₂ (λ (j n : ℕ). ClassesListed (joinedInAll d (forestOf B) (greatest d (forestOf B) (limits d j j)) j) n before after) at-j at-n
       (c d book-lent book-coloured (sound-arranged B sound))) in (
         (sound, (room, tt)),
         listed-groups d (sound-ends B sound) (forestOf B) (sound-arranged B sound) (omega (arith, head .profile .0 .low)) before after

@@ -10,7 +10,7 @@ use lib.Seq.{drop-set-lt}
 use Rattle.rule.specs.Sets.{Set, In, put, at}
 use Rattle.rule.proofs.Tests.{in-split, put-same, put-other}
 use Rattle.rule.proofs.Places.{at-set}
-use Rattle.groups.specs.Classes.{Leader, Listed}
+use Rattle.groups.specs.Classes.{Leader, ClassesListed}
 
 -- the first v places are filled
 pub record Listing (near : ℕ → Set) (n : ℕ) (before now : List ℕ) (v : ℕ) : Type 0 where
@@ -23,7 +23,7 @@ module _ {near : ℕ → Set} {n : ℕ} {before : List ℕ} where
   pub listing-none : Listing near n before before 0
   listing-none = record { within = omega arith; as-long = refl; leads = λ u h. absurd (omega arith); past = refl }
 
-  pub listing-all : {now : List ℕ} {v : ℕ} → n ≤ v → Listing near n before now v → Listed near n before now
+  pub listing-all : {now : List ℕ} {v : ℕ} → n ≤ v → Listing near n before now v → ClassesListed near n before now
   listing-all l k =
       record { as-long = k .as-long; leads = λ u h. k .leads u (omega arith); past = k .past }
 

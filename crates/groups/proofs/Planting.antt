@@ -23,10 +23,10 @@ use Rattle.theory.proofs.Joined.Laws.{joined-agree}
 use Rattle.theory.proofs.Legal.Kept.{forest-make, forest-is, limit-most}
 use Rattle.tables.specs.Tables.{Labels}
 use Rattle.labels.specs.Rows.{Long}
-use Rattle.labels.specs.Labels.{Begun, Ready, United}
+use Rattle.labels.specs.Labels.{Begun, ReadyToUnite, United}
 use Rattle.labels.proofs.Carried.{row-kept, labels-carried, united-else}
-use Rattle.groups.specs.Lent.{Lent, Given}
-use Rattle.groups.specs.Passes.{Planted}
+use Rattle.groups.specs.Lent.{Lent, GroupsGiven}
+use Rattle.groups.specs.Passes.{AllPlanted}
 use Rattle.groups.proofs.Reading.{ends-tabled, labels-seated}
 
 -- ---- one number more of a set
@@ -138,7 +138,7 @@ module _ {m : ℕ} {ones others forests : List ℕ} where
       }
 
   module _ {root who : List ℕ} {e : ℕ} (g : Grows m ones others forests root who e) where
-    pub grows-all : Given m ones others forests → m ≤ e → Planted m ones others forests root who
+    pub grows-all : GroupsGiven m ones others forests → m ≤ e → AllPlanted m ones others forests root who
     grows-all given l =
         record {
           root-long = g .root-long;
@@ -166,13 +166,13 @@ module _ {m : ℕ} {ones others forests : List ℕ} where
           (λ d lent arr. growing-past d (at forests) e root who (g .labels d lent arr) (at-suc forests e ∙ none))
 
       -- an edge that has a forest
-      module _ (given : Given m ones others forests) {f u v : ℕ} (read : Read ones others forests e f u v) (some : f ≢ 0) where
+      module _ (given : GroupsGiven m ones others forests) {f u v : ℕ} (read : Read ones others forests e f u v) (some : f ≢ 0) where
         in-forests : (d : Design) → Lent d m ones others → Arranged d (at forests) → In (k d) f
         in-forests d lent arr =
             let q : at forests (suc e) ≡ f = at-suc forests e ∙ sym (read .forest) in
             subst (In (k d)) q (placed d (at forests) arr (suc e) (omega (arith, lent .edges)) (omega arith))
 
-        pub grows-ready : Ready f u v root who
+        pub grows-ready : ReadyToUnite f u v root who
         grows-ready =
             let ends = ends-tabled (given .design) m ones others (given .lent) (suc e) (omega arith) in
             let hf : In 6 f = omega (arith, in-forests (given .design) (given .lent) (given .arranged), given .lent .few) in

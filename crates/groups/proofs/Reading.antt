@@ -20,7 +20,7 @@ use Rattle.words.specs.Bits.{bit}
 use Rattle.tables.specs.Tables.{label, crowd, Labels}
 use Rattle.groups.specs.Lent.{Lent, Coloured, limits}
 use Rattle.groups.specs.Passes.{Seated, sameLabels, stays}
-use Rattle.groups.specs.Classes.{together, Listed}
+use Rattle.groups.specs.Classes.{together, ClassesListed}
 use Rattle.groups.proofs.Thinning.{held}
 
 every-same : (p q : Set) (j : ℕ) → ((i : ℕ) → In j i → p i ≡ q i) → every p j ≡ every q j
@@ -95,7 +95,7 @@ together-joined d forest c root who labels j few v u hv hu =
 
 -- so a list of the bodies that are together is one of the bodies that c joins
 pub listed-joined : (d : Design) (forest : ℕ → ℕ) (c : Set) (root who : List ℕ) → ((i : ℕ) → In 6 i → Labels d (standing forest c i) i root who)
-    → (j n : ℕ) → j ≤ 6 → n ≤ 64 → (before after : List ℕ) → Listed (together root who j) n before after → Listed (joinedInAll d forest c j) n before after
+    → (j n : ℕ) → j ≤ 6 → n ≤ 64 → (before after : List ℕ) → ClassesListed (together root who j) n before after → ClassesListed (joinedInAll d forest c j) n before after
 listed-joined d forest c root who labels j n few fits before after l =
     record {
       as-long = l .as-long;

@@ -12,8 +12,8 @@ use Rattle.rule.specs.Sets.{Is, In, at}
 use Rattle.rule.specs.Legal.{Design}
 use Rattle.rule.specs.Forests.{Arranged}
 use Rattle.labels.proofs.Carried.{row-kept, labels-carried}
-use Rattle.groups.specs.Lent.{Lent, Coloured, Given, limits}
-use Rattle.groups.specs.Passes.{Planted, stays, Thinned, Shrunk}
+use Rattle.groups.specs.Lent.{Lent, Coloured, GroupsGiven, limits}
+use Rattle.groups.specs.Passes.{AllPlanted, stays, Thinned, Shrunk}
 use Rattle.groups.proofs.Thinning.{held, Part, part-arranged, part-next, Between, between-all, between-next, stable-greatest, stable-joined}
 use Rattle.groups.proofs.Judging.{thinned-none, thinned-same}
 use Rattle.groups.proofs.Reading.{stays-held}
@@ -37,13 +37,13 @@ module _ {m : ℕ} {ones others colours : List ℕ} {red black : ℕ} {before : 
     still-arranged d lent arr = part-arranged d (at before) (at left) (still-part d lent) arr
 
     -- what is left stands in forests too
-    pub shrinking-given : Given m ones others before → Given m ones others left
+    pub shrinking-given : GroupsGiven m ones others before → GroupsGiven m ones others left
     shrinking-given g =
         record { design = g .design; lent = g .lent; arranged = still-arranged (g .design) (g .lent) (g .arranged) }
 
     -- ---- a pass
 
-    module _ (few-red : red ≤ 6) (few-black : black ≤ 6) {root who left′ : List ℕ} {gone : ℕ} (p : Planted m ones others left root who)
+    module _ (few-red : red ≤ 6) (few-black : black ≤ 6) {root who left′ : List ℕ} {gone : ℕ} (p : AllPlanted m ones others left root who)
         (t : Thinned (stays root ones others colours red black) m left left′ gone) where
       module _ (d : Design) (lent : Lent d m ones others) (coloured : Coloured d colours) (arr : Arranged d (at before)) where
         by-labels : (e : ℕ) → In (d .m) e → stays root ones others colours red black e ≡ held d (at left) (limits d red black) e

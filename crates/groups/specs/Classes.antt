@@ -24,7 +24,7 @@ pub record Leader (near : Set) (n lead : ℕ) : Type 0 where
   pub smallest : (u : ℕ) → In n u → Is (near u) → lead ≤ u
 
 -- the first n places hold, for each body in order, the smallest body near it; the places past them what they held
-pub record Listed (near : ℕ → Set) (n : ℕ) (before after : List ℕ) : Type 0 where
+pub record ClassesListed (near : ℕ → Set) (n : ℕ) (before after : List ℕ) : Type 0 where
   pub as-long : length after ≡ length before
   pub leads : (v : ℕ) → In n v → Leader (near v) n (at after v)
   pub past : drop n after ≡ drop n before
@@ -33,4 +33,4 @@ pub record Listed (near : ℕ → Set) (n : ℕ) (before after : List ℕ) : Typ
 abbrev pub Classes : (m : ℕ) (ones others colours forests : List ℕ) (red black j n : ℕ) (before after : List ℕ) → Type 0
 Classes m ones others colours forests red black j n before after =
     (d : Design) → Lent d m ones others → Coloured d colours → Arranged d (at forests)
-    → Listed (joinedInAll d (at forests) (greatest d (at forests) (limits d red black)) j) n before after
+    → ClassesListed (joinedInAll d (at forests) (greatest d (at forests) (limits d red black)) j) n before after

@@ -23,7 +23,7 @@ pub record Seated (root who : List ℕ) : Type 0 where
   pub own : (i v : ℕ) → In 6 i → In 64 v → Is (bit (crowd who i (label root i v)) (v - 1))
 
 -- root and who have the labels of each forest
-pub record Planted (m : ℕ) (ones others forests root who : List ℕ) : Type 0 where
+pub record AllPlanted (m : ℕ) (ones others forests root who : List ℕ) : Type 0 where
   pub root-long : Long root
   pub who-long : Long who
   pub seated : Seated root who

@@ -15,9 +15,9 @@ ghost use Rattle.rule.specs.Reasons.{groupsRoom};
 ghost use Rattle.rule.specs.Calls.{Grouped};
 ghost use Rattle.words.specs.Bits.{bit};
 ghost use Rattle.labels.specs.Rows.{Long};
-ghost use Rattle.groups.specs.Lent.{Given};
-ghost use Rattle.groups.specs.Passes.{Seated, Planted, sameLabels, stays, Thinned, Shrunk};
-ghost use Rattle.groups.specs.Classes.{together, Listed, Classes};
+ghost use Rattle.groups.specs.Lent.{GroupsGiven};
+ghost use Rattle.groups.specs.Passes.{Seated, AllPlanted, sameLabels, stays, Thinned, Shrunk};
+ghost use Rattle.groups.specs.Classes.{together, ClassesListed, Classes};
 ghost use Rattle.groups.specs.Answers.{doneOf};
 use book::Checked;
 use rule::Book;
@@ -40,9 +40,9 @@ fn plant(
     root: &mut [u8; 384],
     who: &mut [u64; 384],
 )
-    requires { ⌜ Given count (now ones) (now others) (now left) ⌝ }
+    requires { ⌜ GroupsGiven count (now ones) (now others) (now left) ⌝ }
     requires { ⌜ Long (now root) × Long (now who) ⌝ }
-    ensures { λ r. ⌜ Planted count (now (ones .entry)) (now (others .entry)) (now (left .entry)) (now (root .exit)) (now (who .exit)) ⌝ }
+    ensures { λ r. ⌜ AllPlanted count (now (ones .entry)) (now (others .entry)) (now (left .entry)) (now (root .exit)) (now (who .exit)) ⌝ }
 {
     labels::begin(root, who);
     let mut e: usize = 0;
@@ -142,7 +142,7 @@ pub fn shrink(
     root: &mut [u8; 384],
     who: &mut [u64; 384],
 )
-    requires { ⌜ Given count (now ones) (now others) (now left) ⌝ }
+    requires { ⌜ GroupsGiven count (now ones) (now others) (now left) ⌝ }
     requires { ⌜ (red ≤ 6) × (black ≤ 6) ⌝ }
     requires { ⌜ (length (now left) ≡ 512) × (Long (now root) × Long (now who)) ⌝ }
     ensures { λ r. ⌜ Shrunk count (now (ones .entry)) (now (others .entry)) (now (colours .entry)) red black (now (left .entry)) (now (left .exit)) (now (root .exit)) (now (who .exit)) ⌝ }
@@ -176,7 +176,7 @@ fn class_of(root: &[u8; 384], who: &[u64; 384], j: usize, v: usize) -> u64
 pub fn leaders(root: &[u8; 384], who: &[u64; 384], j: usize, n: usize, list: &mut [u8])
     requires { ⌜ (j ≤ 6) × ((n ≤ 64) × (n ≤ length (now list))) ⌝ }
     requires { ⌜ Seated (now root) (now who) ⌝ }
-    ensures { λ r. ⌜ Listed (together (now (root .entry)) (now (who .entry)) j) n (now (list .entry)) (now (list .exit)) ⌝ }
+    ensures { λ r. ⌜ ClassesListed (together (now (root .entry)) (now (who .entry)) j) n (now (list .entry)) (now (list .exit)) ⌝ }
 {
     let mut v: usize = 0;
     while v < n {
@@ -199,7 +199,7 @@ pub fn classes<'a>(
     count: usize,
     list: &mut [u8],
 )
-    requires { ⌜ Given count (now ones) (now others) (now forests) ⌝ }
+    requires { ⌜ GroupsGiven count (now ones) (now others) (now forests) ⌝ }
     requires { ⌜ (red ≤ 6) × ((black ≤ 6) × (j ≤ 6)) ⌝ }
     requires { ⌜ (length (now forests) ≡ 512) × ((n ≤ 64) × (n ≤ length (now list))) ⌝ }
     ensures { λ r. ⌜ Classes count (now (ones .entry)) (now (others .entry)) (now (colours .entry)) (now (forests .entry)) red black j n (now (list .entry)) (now (list .exit)) ⌝ }

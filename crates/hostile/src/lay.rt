@@ -6,7 +6,7 @@ ghost use lib.ListN.{length};
 use text::Reading;
 
 // Where the text ends now; or the line was not understood.
-pub enum Laid {
+pub enum LineLaid {
     To(usize),
     Bad,
 }
@@ -90,7 +90,7 @@ fn put(space: &mut [u8], size: usize, x: u8) -> usize {
 }
 
 // The bytes of a line, once.
-fn once(bytes: &[u8], space: &mut [u8], from: usize) -> Laid {
+fn once(bytes: &[u8], space: &mut [u8], from: usize) -> LineLaid {
     let mut size = from;
     let mut i = 0;
     while i < bytes.len() {
@@ -100,38 +100,38 @@ fn once(bytes: &[u8], space: &mut [u8], from: usize) -> Laid {
         match found {
             Piece::Byte(x) => size = put(space, size, x),
             Piece::Nothing => {}
-            Piece::Bad => return Laid::Bad,
+            Piece::Bad => return LineLaid::Bad,
         }
     }
-    Laid::To(size)
+    LineLaid::To(size)
 }
 
-fn repeat(times: usize, bytes: &[u8], space: &mut [u8], from: usize) -> Laid {
+fn repeat(times: usize, bytes: &[u8], space: &mut [u8], from: usize) -> LineLaid {
     let mut size = from;
     let mut i = 0;
     while i < times {
         let r = once(bytes, space, size);
-        let Laid::To(next) = r else {
-            return Laid::Bad;
+        let LineLaid::To(next) = r else {
+            return LineLaid::Bad;
         };
         size = next;
         i += 1;
     }
-    Laid::To(size)
+    LineLaid::To(size)
 }
 
-fn behind_bar(times: usize, bar: usize, line: &[u8], space: &mut [u8], from: usize) -> Laid {
+fn behind_bar(times: usize, bar: usize, line: &[u8], space: &mut [u8], from: usize) -> LineLaid {
     if bar < line.len() {
         if line[bar] == b'|' {
             let start = bar + 1;
             return repeat(times, &line[start..], space, from);
         }
     }
-    Laid::Bad
+    LineLaid::Bad
 }
 
 // A line of the file, behind the text so far.
-pub fn line(line: &[u8], space: &mut [u8], from: usize) -> Laid {
+pub fn line(line: &[u8], space: &mut [u8], from: usize) -> LineLaid {
     let r = text::number(line, 5);
     match r {
         Reading::Value(times, bar) => behind_bar(times, bar, line, space, from),

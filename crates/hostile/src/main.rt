@@ -4,9 +4,9 @@
 mod lay;
 
 use cases::say;
-use lay::Laid;
-use reports::Line;
+use lay::LineLaid;
 use pager::Kind;
+use reports::Line;
 
 // The case that is being read: whether there is one yet, and how long its text is so far.
 struct Case {
@@ -82,8 +82,8 @@ fn further(line: &[u8], number: usize, space: &mut [u8], case: Case) -> Case {
     let mut next = case;
     let r = lay::line(line, space, case.size);
     match r {
-        Laid::To(size) => next.size = size,
-        Laid::Bad => cases::bad(number),
+        LineLaid::To(size) => next.size = size,
+        LineLaid::Bad => cases::bad(number),
     }
     next
 }

@@ -11,7 +11,7 @@ use Prim.Native.Nat.{ℕ, _*_, _-_, _≤_}
 use lib.ListN.{length}
 use Rattle.rule.specs.Sets.{_and_, _or_, isnt, _=?_, _≤?_, Set, In, count, at}
 use Rattle.rule.specs.Legal.{Design, Ends, k, inside}
-use Rattle.rule.specs.Figures.{Share, InGroup, Leads, Groups}
+use Rattle.rule.specs.Figures.{Share, InGroup, GroupLead, Groups}
 use Rattle.known.proofs.Decides.{Decides, self-decides, reworded, and-decides, or-decides, if-decides, eq-decides, le-decides}
 use Rattle.known.proofs.Decides.{in?, in-decides, each?, each-decides}
 use Rattle.known.proofs.Trying.{some?, some-decides}
@@ -44,7 +44,7 @@ module _ (d : Design) (ends : Ends d) (kept : Set) where
   unfolding in-group?
   in-group-decides u v hu hv = or-decides (eq-decides v u) (share-decides u v hu hv)
 
-  pub leads-decides : (u lead : ℕ) → In (d .n) u → Decides (leads? d kept u lead) (Leads d kept u lead)
+  pub leads-decides : (u lead : ℕ) → In (d .n) u → Decides (leads? d kept u lead) (GroupLead d kept u lead)
   unfolding leads?
   leads-decides u lead hu =
       reworded

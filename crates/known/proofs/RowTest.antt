@@ -16,9 +16,9 @@ use Rattle.rule.specs.Sets.{Is, _and_, isnt, _=?_, Set, In, _with_, below}
 use Rattle.rule.specs.Legal.{Design, Ends, Keeps}
 use Rattle.rule.specs.Figures.{freedom, dropped, verdict}
 use Rattle.rule.proofs.Tests.{never, eq-of, eq-is}
-use Rattle.known.specs.Rows.{Outcome, Row}
-use Rattle.known.specs.Rows.Outcome.{kept, implied}
-use Rattle.known.specs.Holds.{offer, designOf, is-kept, keptOf, Joins, HasOutcome, Holds, AllHold}
+use Rattle.known.specs.Rows.{RowOutcome, Row}
+use Rattle.known.specs.Rows.RowOutcome.{kept, implied}
+use Rattle.known.specs.Holds.{offer, rowDesign, is-kept, rowKept, Joins, HasOutcome, RowHolds, AllHold}
 use Rattle.known.proofs.Decides.{Decides, reworded, and-decides, not-decides, eq-decides, in?, in-decides, each?, each-decides}
 use Rattle.known.proofs.LegalTest.{legal?, legal-decides, circuit?, circuit-decides}
 use Rattle.known.proofs.GroupTest.{groups?, groups-decides}
@@ -61,11 +61,11 @@ joins-decides d e =
 ends-of : (d : Design) → ((e : ℕ) → In (d .m) e → Joins d e) → Ends d
 ends-of d joins = record { one = λ e h. joins e h .one; other = λ e h. joins e h .other }
 
-unfoldable pub outcome? : (d : Design) (before : Set) (e : ℕ) → Outcome → Bool
+unfoldable pub outcome? : (d : Design) (before : Set) (e : ℕ) → RowOutcome → Bool
 outcome? d before e kept = legal? d (before with e)
 outcome? d before e (implied circuit) = isnt (legal? d (before with e)) and circuit? d before e circuit
 
-outcome-decides : (d : Design) → Ends d → (before : Set) (e : ℕ) (outcome : Outcome)
+outcome-decides : (d : Design) → Ends d → (before : Set) (e : ℕ) (outcome : RowOutcome)
     → Decides (outcome? d before e outcome) (HasOutcome d before e outcome)
 unfolding outcome?
 outcome-decides d ends before e kept = legal-decides d ends (before with e)
@@ -73,7 +73,7 @@ outcome-decides d ends before e (implied circuit) =
     and-decides (not-decides (legal-decides d ends (before with e))) (λ _. circuit-decides d ends before e circuit)
 
 -- an outcome says whether the edge is kept
-outcome-keeps : (d : Design) (before : Set) (e : ℕ) (outcome : Outcome) → HasOutcome d before e outcome
+outcome-keeps : (d : Design) (before : Set) (e : ℕ) (outcome : RowOutcome) → HasOutcome d before e outcome
     → (Is (is-kept outcome) ↔ Keeps d before e)
 outcome-keeps d before e kept h = (λ _. h, λ _. refl)
 outcome-keeps d before e (implied circuit) h = (λ t. never t, λ keeps. absurd (h .0 keeps))
@@ -82,33 +82,33 @@ outcome-keeps d before e (implied circuit) h = (λ t. never t, λ keeps. absurd 
 
 module _ (row : Row) where
   abbrev design : Design
-  design = designOf row
+  design = rowDesign row
 
   -- offer e has its outcome with the edges kept before it
   unfoldable pub offer-holds? : ℕ → Bool
-  offer-holds? e = outcome? design (below (keptOf row) e) e (offer row e .outcome)
+  offer-holds? e = outcome? design (below (rowKept row) e) e (offer row e .outcome)
 
   abbrev OfferHolds : ℕ → Type 0
-  OfferHolds e = HasOutcome design (below (keptOf row) e) e (offer row e .outcome)
+  OfferHolds e = HasOutcome design (below (rowKept row) e) e (offer row e .outcome)
 
   offer-decides : Ends design → (e : ℕ) → Decides (offer-holds? e) (OfferHolds e)
   unfolding offer-holds?
-  offer-decides ends e = outcome-decides design ends (below (keptOf row) e) e (offer row e .outcome)
+  offer-decides ends e = outcome-decides design ends (below (rowKept row) e) e (offer row e .outcome)
 
-  offer-grows : (e : ℕ) → OfferHolds e → (Is (keptOf row e) ↔ Keeps design (below (keptOf row) e) e)
-  unfolding keptOf
-  offer-grows e = outcome-keeps design (below (keptOf row) e) e (offer row e .outcome)
+  offer-grows : (e : ℕ) → OfferHolds e → (Is (rowKept row e) ↔ Keeps design (below (rowKept row) e) e)
+  unfolding rowKept
+  offer-grows e = outcome-keeps design (below (rowKept row) e) e (offer row e .outcome)
 
   unfoldable pub holds? : Bool
   holds? =
       each? (joins? design) (design .m)
       and (each? offer-holds? (design .m)
-      and (freedom design (keptOf row) =? row .free
-      and (dropped design (keptOf row) =? row .dropped
-      and (number (verdict design (keptOf row)) =? number (row .verdict)
-      and groups? design (keptOf row) (row .groups)))))
+      and (freedom design (rowKept row) =? row .free
+      and (dropped design (rowKept row) =? row .dropped
+      and (number (verdict design (rowKept row)) =? number (row .verdict)
+      and groups? design (rowKept row) (row .groups)))))
 
-  pub holds-decides : Decides holds? (Holds row)
+  pub holds-decides : Decides holds? (RowHolds row)
   unfolding holds?
   holds-decides =
       reworded
@@ -116,12 +116,12 @@ module _ (row : Row) where
       (λ joins.
       and-decides (each-decides _ OfferHolds (design .m) (λ e _. offer-decides (ends-of design joins) e))
       (λ _.
-      and-decides (eq-decides (freedom design (keptOf row)) (row .free))
+      and-decides (eq-decides (freedom design (rowKept row)) (row .free))
       (λ _.
-      and-decides (eq-decides (dropped design (keptOf row)) (row .dropped))
+      and-decides (eq-decides (dropped design (rowKept row)) (row .dropped))
       (λ _.
-      and-decides (verdict-decides (verdict design (keptOf row)) (row .verdict))
-      (λ _. groups-decides design (ends-of design joins) (keptOf row) (row .groups)))))))
+      and-decides (verdict-decides (verdict design (rowKept row)) (row .verdict))
+      (λ _. groups-decides design (ends-of design joins) (rowKept row) (row .groups)))))))
       (λ z.
       record {
         joins = z .0;

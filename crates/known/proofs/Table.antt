@@ -8,7 +8,7 @@ use Rattle.rule.specs.Sets.{_and_, _or_, isnt, _=?_, _<?_, _≤?_, put, below, 
 use Rattle.rule.specs.Legal.{inside, first-part, second-part}
 use Rattle.rule.specs.Figures.{freedom, dropped, verdict}
 use Rattle.known.specs.Rows.{table}
-use Rattle.known.specs.Holds.{offer, designOf, keptOf, AllHold}
+use Rattle.known.specs.Holds.{offer, rowDesign, rowKept, AllHold}
 use Rattle.known.proofs.Decides.{in?, each?, same?}
 use Rattle.known.proofs.Trying.{some?, every?}
 use Rattle.known.proofs.LegalTest.{sparse?, legal?, in-circuit?, circuit?}
@@ -16,7 +16,7 @@ use Rattle.known.proofs.GroupTest.{share?, in-group?, leads?, groups?}
 use Rattle.known.proofs.RowTest.{joins?, outcome?, offer-holds?, holds?, all-hold?, all-hold-decides}
 
 pub table-holds : AllHold table
-unfolding table offer designOf keptOf all-hold? holds? joins? offer-holds? outcome? groups? leads? in-group? share? circuit?
+unfolding table offer rowDesign rowKept all-hold? holds? joins? offer-holds? outcome? groups? leads? in-group? share? circuit?
     in-circuit? legal? sparse? every? some? each? same? in? at _and_ _or_ isnt _=?_ _<?_ _≤?_ put below count numbers inside
     first-part second-part freedom dropped verdict
 table-holds = all-hold-decides table .0 refl

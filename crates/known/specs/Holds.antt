@@ -11,21 +11,21 @@ use lib.ListN.{length, getD}
 use Rattle.rule.specs.Sets.{_=?_, Set, In, below}
 use Rattle.rule.specs.Legal.{Design, Keeps, Implies, Circuit, Grown}
 use Rattle.rule.specs.Figures.{freedom, dropped, verdict, Groups}
-use Rattle.known.specs.Rows.{Outcome, Offer, Row, r}
-use Rattle.known.specs.Rows.Outcome.{kept, implied}
+use Rattle.known.specs.Rows.{RowOutcome, RowOffer, Row, r}
+use Rattle.known.specs.Rows.RowOutcome.{kept, implied}
 
 -- ---- the design of a row
 
-abbrev no-offer : Offer
+abbrev no-offer : RowOffer
 no-offer = r 0 0 (implied [])
 
 -- offer e of the row. Offers count from 1, and what stands at other numbers is never asked
-unfoldable pub offer : Row → ℕ → Offer
+unfoldable pub offer : Row → ℕ → RowOffer
 offer row e = getD (no-offer ∷ row .offers) e no-offer
 
 -- edge e is offer e
-unfoldable pub designOf : Row → Design
-designOf row =
+unfoldable pub rowDesign : Row → Design
+rowDesign row =
     record {
       a = row .a;
       b = row .b;
@@ -36,13 +36,13 @@ designOf row =
       red = λ e. offer row e .colour =? 1;
     }
 
-abbrev pub is-kept : Outcome → Bool
+abbrev pub is-kept : RowOutcome → Bool
 is-kept kept = true
 is-kept (implied circuit) = false
 
 -- the edges that the row says are kept
-unfoldable pub keptOf : Row → Set
-keptOf row e = is-kept (offer row e .outcome)
+unfoldable pub rowKept : Row → Set
+rowKept row e = is-kept (offer row e .outcome)
 
 -- ---- what the row says of it
 
@@ -53,21 +53,21 @@ pub record Joins (d : Design) (e : ℕ) : Type 0 where
   pub different : d .one e ≢ d .other e
 
 -- edge e, offered when the edges `before` are kept, is kept; or it is implied, and the list is its circuit
-abbrev pub HasOutcome : (d : Design) (before : Set) (e : ℕ) → Outcome → Type 0
+abbrev pub HasOutcome : (d : Design) (before : Set) (e : ℕ) → RowOutcome → Type 0
 HasOutcome d before e kept = Keeps d before e
 HasOutcome d before e (implied circuit) = Implies d before e × Circuit d before e circuit
 
-pub record Holds (row : Row) : Type 0 where
-  pub joins : (e : ℕ) → In (designOf row .m) e → Joins (designOf row) e
+pub record RowHolds (row : Row) : Type 0 where
+  pub joins : (e : ℕ) → In (rowDesign row .m) e → Joins (rowDesign row) e
   -- the edges said to be kept are those kept when all are offered in order to an empty book
-  pub grown : Grown (designOf row) (keptOf row)
+  pub grown : Grown (rowDesign row) (rowKept row)
   -- each offer has its outcome with the edges kept before it
-  pub outcomes : (e : ℕ) → In (designOf row .m) e → HasOutcome (designOf row) (below (keptOf row) e) e (offer row e .outcome)
-  pub free : freedom (designOf row) (keptOf row) ≡ row .free
-  pub drops : dropped (designOf row) (keptOf row) ≡ row .dropped
-  pub judged : verdict (designOf row) (keptOf row) ≡ row .verdict
-  pub grouped : Groups (designOf row) (keptOf row) (row .groups)
+  pub outcomes : (e : ℕ) → In (rowDesign row .m) e → HasOutcome (rowDesign row) (below (rowKept row) e) e (offer row e .outcome)
+  pub free : freedom (rowDesign row) (rowKept row) ≡ row .free
+  pub drops : dropped (rowDesign row) (rowKept row) ≡ row .dropped
+  pub judged : verdict (rowDesign row) (rowKept row) ≡ row .verdict
+  pub grouped : Groups (rowDesign row) (rowKept row) (row .groups)
 
 abbrev pub AllHold : List Row → Type 0
 AllHold [] = Unit
-AllHold (row ∷ rest) = Holds row × AllHold rest
+AllHold (row ∷ rest) = RowHolds row × AllHold rest

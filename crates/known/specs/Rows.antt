@@ -9,22 +9,22 @@ use Rattle.rule.specs.declared.Verdict.{Verdict}
 use Rattle.rule.specs.declared.Verdict.the-variants.{Tight, Loose, OverTight, OverLoose}
 
 -- an offered edge is kept, or implied by its circuit
-pub data Outcome : Type 0 where
-  kept : Outcome
-  implied : List ℕ → Outcome
+pub data RowOutcome : Type 0 where
+  kept : RowOutcome
+  implied : List ℕ → RowOutcome
 
 -- an edge offered between u and v, its colour (1 red, 2 black), and the outcome
-pub record Offer : Type 0 where
+pub record RowOffer : Type 0 where
   pub u : ℕ
   pub v : ℕ
   pub colour : ℕ
-  pub outcome : Outcome
+  pub outcome : RowOutcome
 
 -- 01's letters: r red, k black, ends after
-abbrev pub r : (u v : ℕ) → Outcome → Offer
+abbrev pub r : (u v : ℕ) → RowOutcome → RowOffer
 r u v outcome = record { u = u; v = v; colour = 1; outcome = outcome }
 
-abbrev pub k : (u v : ℕ) → Outcome → Offer
+abbrev pub k : (u v : ℕ) → RowOutcome → RowOffer
 k u v outcome = record { u = u; v = v; colour = 2; outcome = outcome }
 
 -- a profile [a,b], the number of bodies, and the offers in order to an empty book; then freedom, the number of implied edges,
@@ -33,7 +33,7 @@ pub record Row : Type 0 where
   pub a : ℕ
   pub b : ℕ
   pub bodies : ℕ
-  pub offers : List Offer
+  pub offers : List RowOffer
   pub free : ℕ
   pub dropped : ℕ
   pub verdict : Verdict
@@ -41,7 +41,7 @@ pub record Row : Type 0 where
 
 infix 5 profile_and_bodies_offers_free_dropped_verdict_groups_
 abbrev pub profile_and_bodies_offers_free_dropped_verdict_groups_ :
-    (a b bodies : ℕ) (offers : List Offer) (free dropped : ℕ) (verdict : Verdict) (groups : List ℕ) → Row
+    (a b bodies : ℕ) (offers : List RowOffer) (free dropped : ℕ) (verdict : Verdict) (groups : List ℕ) → Row
 profile a and b bodies n offers o free f dropped d verdict w groups g =
     record { a = a; b = b; bodies = n; offers = o; free = f; dropped = d; verdict = w; groups = g }
 

@@ -21,7 +21,7 @@ use Rattle.words.specs.Bits.{bit}
 use Rattle.words.proofs.Bits.{bit-or}
 use Rattle.tables.specs.Tables.{start, spot, label, crowd, Labels}
 use Rattle.labels.specs.Rows.{Long, Applied}
-use Rattle.labels.specs.Labels.{Ready, Tree, United}
+use Rattle.labels.specs.Labels.{ReadyToUnite, Tree, United}
 use Rattle.labels.proofs.Trees.{Named, Renamed, named-renamed}
 
 -- e links u and v
@@ -78,7 +78,7 @@ or-turned a b =
     same-test _ _ (λ h. ⊎-elim (λ p. or-r b a p) (λ p. or-l b a p) (or-elim a b h)) (λ h. ⊎-elim (λ p. or-r a b p) (λ p. or-l a b p) (or-elim b a h))
 
 -- Either tree may take the other's label: p and q are u and v, or v and u.
-module _ (f u v : ℕ) (root who : List ℕ) (r : Ready f u v root who) where
+module _ (f u v : ℕ) (root who : List ℕ) (r : ReadyToUnite f u v root who) where
   -- the tree of p takes the label of q
   module _ (p q word : ℕ) (hp : In 64 p) (root′ : List ℕ) (small : label root f q < 64)
       (a : Applied (λ _. label root f q) (start f) (bit (crowd who f (label root f p))) root root′)

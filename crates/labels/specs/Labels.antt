@@ -22,7 +22,7 @@ pub record Begun (root who : List ℕ) : Type 0 where
   pub labels : (d : Design) (s : Set) → Empty d s → (f : ℕ) → In 6 f → Labels d s f root who
 
 -- what `unite` needs so that it stays inside the tables
-pub record Ready (f u v : ℕ) (root who : List ℕ) : Type 0 where
+pub record ReadyToUnite (f u v : ℕ) (root who : List ℕ) : Type 0 where
   pub forest : In 6 f
   pub one : In 64 u
   pub other : In 64 v

@@ -8,7 +8,7 @@ ghost use Rattle.rule.specs.Sets.{In};
 ghost use Rattle.tables.specs.Tables.{start};
 ghost use Rattle.words.specs.Bits.{bit};
 ghost use Rattle.labels.specs.Rows.{Long, Applied};
-ghost use Rattle.labels.specs.Labels.{Begun, Ready, United};
+ghost use Rattle.labels.specs.Labels.{Begun, ReadyToUnite, United};
 
 // Every body is a tree by itself.
 pub fn begin(root: &mut [u8; 384], who: &mut [u64; 384])
@@ -48,7 +48,7 @@ fn relabel(f: usize, bodies: u64, new: u8, root: &mut [u8; 384])
 
 // The trees of u and v in forest f become one. Answers the bodies that took another label.
 pub fn unite(f: usize, u: usize, v: usize, root: &mut [u8; 384], who: &mut [u64; 384]) -> u64
-    requires { ⌜ Ready f u v (now root) (now who) ⌝ }
+    requires { ⌜ ReadyToUnite f u v (now root) (now who) ⌝ }
     ensures { λ r. ⌜ United f u v (now (root .entry)) (now (who .entry)) (now (root .exit)) (now (who .exit)) r ⌝ }
 {
     let x = tables::place(f, u);

@@ -10,7 +10,7 @@ use native.Mathlib.Omega.{arith}
 use native.Mathlib.Numerals.{add-one}
 use lib.ListN.{length, length-append}
 use Rattle.rule.proofs.Tests.{by-le}
-use Rattle.lines.specs.Adding.{Adds}
+use Rattle.lines.specs.Adding.{Appends}
 use Rattle.lines.proofs.Adding.{adds-none, adds-as, adds-adds, adds-length, adds-left}
 
 -- n rounds make the texts out of the pieces
@@ -21,7 +21,7 @@ pub record Pieces (text piece : ℕ → List ℕ) (n : ℕ) : Type 0 where
 -- i of n rounds are done
 pub record Rounds (text : ℕ → List ℕ) (n : ℕ) (before after : List ℕ) (at next i : ℕ) : Type 0 where
   pub within : i ≤ n
-  pub adds : Adds (text i) before after at next
+  pub adds : Appends (text i) before after at next
 
 module _ {text piece : ℕ → List ℕ} {n : ℕ} (pieces : Pieces text piece n) where
   pub rounds-none : {before : List ℕ} {at : ℕ} → at ≤ length before → Rounds text n before before at at 0
@@ -45,9 +45,9 @@ module _ {text piece : ℕ → List ℕ} {n : ℕ} (pieces : Pieces text piece n
     rounds-room h u e =
         adds-left u (g .adds) (omega (arith, ap length (one-more h u e), first-within (i + 1) n (omega arith) (omega arith)))
 
-    pub rounds-more : i < n → (u : List ℕ) → u ≡ piece i → {now : List ℕ} {end : ℕ} → Adds u after now next end
+    pub rounds-more : i < n → (u : List ℕ) → u ≡ piece i → {now : List ℕ} {end : ℕ} → Appends u after now next end
         → Rounds text n before now at end (i + 1)
     rounds-more h u e a = record { within = omega arith; adds = adds-as (one-more h u e) (adds-adds (g .adds) a) }
 
-    pub rounds-all : n ≤ i → Adds (text n) before after at next
+    pub rounds-all : n ≤ i → Appends (text n) before after at next
     rounds-all h = let last : i ≡ n = omega (arith, g .within) in adds-as (ap text last) (g .adds)

@@ -10,8 +10,8 @@ ghost use Rattle.text.specs.Lines.{LF, numeral, listed, line};
 ghost use Rattle.text.specs.Sheets.{edgeText};
 ghost use Rattle.text.specs.Puts.{Writes};
 ghost use Rattle.reports.specs.Keys.{key-verdict, wordOf};
-ghost use Rattle.reports.specs.Reports.{bookLine, bookText};
-ghost use Rattle.lines.specs.Adding.{Adds, item};
+ghost use Rattle.reports.specs.Reports.{bookLine, bookLines};
+ghost use Rattle.lines.specs.Adding.{Appends, item};
 use rule::Book;
 use rule::Verdict;
 use text::put;
@@ -21,7 +21,7 @@ use text::put;
 // One byte.
 pub fn add_byte(buffer: &mut [u8], at: usize, x: u8) -> usize
     requires { ⌜ at < length (now buffer) ⌝ }
-    ensures { λ r. ⌜ Adds (x ∷ []) (now (buffer .entry)) (now (buffer .exit)) at r ⌝ }
+    ensures { λ r. ⌜ Appends (x ∷ []) (now (buffer .entry)) (now (buffer .exit)) at r ⌝ }
 {
     buffer[at] = x;
     at + 1
@@ -30,7 +30,7 @@ pub fn add_byte(buffer: &mut [u8], at: usize, x: u8) -> usize
 // Bytes that are given.
 pub fn add_bytes(buffer: &mut [u8], at: usize, given: &[u8]) -> usize
     requires { ⌜ at + length (now given) ≤ length (now buffer) ⌝ }
-    ensures { λ r. ⌜ Adds (now (given .entry)) (now (buffer .entry)) (now (buffer .exit)) at r ⌝ }
+    ensures { λ r. ⌜ Appends (now (given .entry)) (now (buffer .entry)) (now (buffer .exit)) at r ⌝ }
 {
     let more = put::bytes(&mut buffer[at..], given);
     at + more
@@ -39,7 +39,7 @@ pub fn add_bytes(buffer: &mut [u8], at: usize, given: &[u8]) -> usize
 // The digits of a number.
 pub fn add_number(buffer: &mut [u8], at: usize, n: usize) -> usize
     requires { ⌜ at + length (numeral n) ≤ length (now buffer) ⌝ }
-    ensures { λ r. ⌜ Adds (numeral n) (now (buffer .entry)) (now (buffer .exit)) at r ⌝ }
+    ensures { λ r. ⌜ Appends (numeral n) (now (buffer .entry)) (now (buffer .exit)) at r ⌝ }
 {
     let more = put::number(&mut buffer[at..], n);
     at + more
@@ -48,7 +48,7 @@ pub fn add_number(buffer: &mut [u8], at: usize, n: usize) -> usize
 // The number x of a list, which stands at index i: all but the first come after a comma.
 fn add_item(buffer: &mut [u8], at: usize, i: usize, x: usize) -> usize
     requires { ⌜ at + length (item i x) ≤ length (now buffer) ⌝ }
-    ensures { λ r. ⌜ Adds (item i x) (now (buffer .entry)) (now (buffer .exit)) at r ⌝ }
+    ensures { λ r. ⌜ Appends (item i x) (now (buffer .entry)) (now (buffer .exit)) at r ⌝ }
 {
     if i == 0 {
         return add_number(buffer, at, x);
@@ -68,7 +68,7 @@ fn wide(x: u16) -> usize
 fn add_list(buffer: &mut [u8], at: usize, list: &[u16], n: usize) -> usize
     requires { ⌜ n ≤ length (now list) ⌝ }
     requires { ⌜ at + length (listed (take n (now list))) ≤ length (now buffer) ⌝ }
-    ensures { λ r. ⌜ Adds (listed (take n (now (list .entry)))) (now (buffer .entry)) (now (buffer .exit)) at r ⌝ }
+    ensures { λ r. ⌜ Appends (listed (take n (now (list .entry)))) (now (buffer .entry)) (now (buffer .exit)) at r ⌝ }
 {
     let mut next = at;
     let mut i = 0;
@@ -167,7 +167,7 @@ fn given_line(book: Book, e: u16, buffer: &mut [u8]) -> usize
 
 // Line i of the text of a book, counted from 0: the four lines of the head, and then the edges in order.
 pub fn book_line(book: Book, i: u16, buffer: &mut [u8]) -> usize
-    requires { ⌜ (i < bookText book .number) × (book .count ≤ 512) ⌝ }
+    requires { ⌜ (i < bookLines book .number) × (book .count ≤ 512) ⌝ }
     requires { ⌜ length (bookLine book i) ≤ length (now buffer) ⌝ }
     ensures { λ r. ⌜ Writes (bookLine book i) (now (buffer .entry)) (now (buffer .exit)) r ⌝ }
 {
@@ -182,9 +182,9 @@ pub fn book_line(book: Book, i: u16, buffer: &mut [u8]) -> usize
 
 // The same from a place on.
 pub fn add_book_line(buffer: &mut [u8], at: usize, book: Book, i: u16) -> usize
-    requires { ⌜ (i < bookText book .number) × (book .count ≤ 512) ⌝ }
+    requires { ⌜ (i < bookLines book .number) × (book .count ≤ 512) ⌝ }
     requires { ⌜ at + length (bookLine book i) ≤ length (now buffer) ⌝ }
-    ensures { λ r. ⌜ Adds (bookLine book i) (now (buffer .entry)) (now (buffer .exit)) at r ⌝ }
+    ensures { λ r. ⌜ Appends (bookLine book i) (now (buffer .entry)) (now (buffer .exit)) at r ⌝ }
 {
     let more = book_line(book, i, &mut buffer[at..]);
     at + more

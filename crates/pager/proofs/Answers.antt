@@ -12,7 +12,7 @@ use Rattle.rule.specs.Books.{Sound}
 use Rattle.rule.specs.Reasons.{Fail, bookChecks}
 use Rattle.text.specs.Puts.{Writes}
 use Rattle.book.specs.declared.Checked.{Checked}
-use Rattle.book.specs.Checks.{Found}
+use Rattle.book.specs.Checks.{FoundBy}
 use Rattle.reports.specs.declared.Received.{Received}
 use Rattle.reports.specs.declared.State.{State}
 use Rattle.reports.specs.declared.Line.{Line}
@@ -20,7 +20,7 @@ use Rattle.reports.specs.declared.Stepped.{Stepped}
 use Rattle.reports.specs.Reports.{refusedLine}
 use Rattle.reports.specs.Steps.{Form, linesOf, LineOf, written, lineRoom, Readable, stepChecks, Lines, PageOf, Page}
 use Rattle.reports.specs.Steps.Lines.{none, then}
-use Rattle.pager.specs.declared.Filled.{Filled}
+use Rattle.pager.specs.declared.PageEnd.{PageEnd}
 use Rattle.pager.specs.Kinds.{lineFrom}
 use Rattle.pager.specs.Lent.{FullRun}
 
@@ -53,11 +53,11 @@ module _ (form : Form) (state : State) (buffer : List ℕ) where
     unsound-refused reason (inl f) = inl (unreadable (f .0), f .1, f .2)
     unsound-refused reason (inr f) = absurd (f .1)
 
-    pub book-refused : (more : Type 0) (c : Checked) (reason : Reason) → c ≡ Checked.Refused reason → Found (bookChecks (state .book)) more c
+    pub book-refused : (more : Type 0) (c : Checked) (reason : Reason) → c ≡ Checked.Refused reason → FoundBy (bookChecks (state .book)) more c
         → (answer : Line) → answer ≡ lineFrom c → Page form state state buffer buffer answer
     book-refused more c reason q found answer handed =
         subst (Page form state state buffer buffer) (sym (handed ∙ ap lineFrom q))
-        (unsound-refused reason (subst (Found (bookChecks (state .book)) more) q found), refl, refl)
+        (unsound-refused reason (subst (FoundBy (bookChecks (state .book)) more) q found), refl, refl)
 
 module _ (form : Form) (state : State) (buffer : List ℕ) (room : lineRoom ≤ length buffer) where
   module _ (fine : state .received ≡ Received.Fine) where
@@ -69,7 +69,7 @@ module _ (form : Form) (state : State) (buffer : List ℕ) (room : lineRoom ≤ 
       refl,
     )
 
-    pub book-lines : Sound (state .book) → state .line < form .number (state .book) → (buffered : List ℕ) (filled : Filled)
+    pub book-lines : Sound (state .book) → state .line < form .number (state .book) → (buffered : List ℕ) (filled : PageEnd)
         → FullRun form (state .book) (state .line) buffer buffered filled → (after : State) → after ≡ written state (filled .line)
         → Page form state after buffer buffered (Line.Written (filled .end))
     book-lines sound less buffered filled full after is =

@@ -24,7 +24,7 @@ use Rattle.lines.proofs.Sizes.{Numbers, numeral-at-most-20, line-not-empty, num
 use Rattle.reports.specs.declared.Received.{Received}
 use Rattle.reports.specs.Keys.{key-verdict, key-groups, wordOf}
 use Rattle.reports.specs.Sections.{Exactly, Nth}
-use Rattle.reports.specs.Reports.{ImpliedLine, EdgeLine, GroupsLine, figures, reportLines, ReportLine, bookLine, bookText, ForestLine, certificateLines, CertificateLine, refusedLine}
+use Rattle.reports.specs.Reports.{ImpliedLine, EdgeLine, GroupsLine, figures, reportLines, ReportLine, bookLine, bookLines, ForestLine, certificateLines, CertificateLine, refusedLine}
 use Rattle.reports.specs.Steps.{LineOf, lineRoom}
 use Rattle.reports.proofs.Sections.{Has, nth-has, line-has}
 use Rattle.pager.specs.declared.Kind.{Kind}
@@ -61,7 +61,7 @@ module _ (B : Book) (sound : Sound B) where
       omega arith in
       omega (arith, line-at-most key-groups l small)
 
-  pub book-line-room : (i places : ℕ) → i < bookText B .number → lineRoom ≤ places → length (bookLine B i) ≤ places
+  pub book-line-room : (i places : ℕ) → i < bookLines B .number → lineRoom ≤ places → length (bookLine B i) ≤ places
   unfolding bookLine
   book-line-room zero places less room = small-line-room key-a (B .a) places (omega arith) (omega (arith, sound-head B sound .profile .0 .high)) room
   book-line-room (suc zero) places less room = small-line-room key-b (B .b) places (omega arith) (omega (arith, sound-head B sound .profile .1 .high)) room

@@ -16,7 +16,7 @@ use Rattle.text.proofs.Overwrites.{writes-none, writes-length, rest, writes-the
 use Rattle.reports.specs.declared.Received.{Received}
 use Rattle.reports.specs.Steps.{Form, Lines, Puts, lineRoom}
 use Rattle.reports.specs.Steps.Lines.{none, then}
-use Rattle.pager.specs.Lent.{Run, Tally}
+use Rattle.pager.specs.Lent.{LinesRun, Tally}
 
 -- what is written is within the places
 pub writes-within : {t s after : List ℕ} {k : ℕ} → Writes t s after k → length after ≡ length s → k ≤ length s
@@ -26,12 +26,12 @@ pub rest-length : (s : List ℕ) (k : ℕ) → length (rest s k) ≡ length s - 
 rest-length s k = ap length (part-rest s k) ∙ length-drop k s
 
 module _ (form : Form) (B : Book) (i : ℕ) (before : List ℕ) where
-  pub run-none : Run form B i before before i 0
+  pub run-none : LinesRun form B i before before i 0
   run-none = record { bytes = []; are-lines = none; writes = writes-none before; as-long = refl; within = omega arith }
 
-  pub run-more : (after : List ℕ) (j end : ℕ) → Run form B i before after j end → lineRoom ≤ length after - end → j < form .number B
+  pub run-more : (after : List ℕ) (j end : ℕ) → LinesRun form B i before after j end → lineRoom ≤ length after - end → j < form .number B
       → (part : List ℕ) (r : ℕ) → Puts (form .Says B j) (rest after end) part r → length part ≡ length (rest after end)
-      → Run form B i before (take end after ++ (part ++ drop (length after - end) (drop end after))) (j + 1) (end + r)
+      → LinesRun form B i before (take end after ++ (part ++ drop (length after - end) (drop end after))) (j + 1) (end + r)
   run-more after j end run room less part r p long =
       let here : r ≤ length (rest after end) = writes-within (p .writes) long in
       let all = writes-then (run .writes) (p .writes) in

@@ -12,7 +12,7 @@ use Rattle.rule.specs.Books.{designOf, keptOf}
 use Rattle.text.specs.Lines.{line}
 use Rattle.text.specs.Puts.{Writes}
 use Rattle.reports.specs.Keys.{key-kept, key-forest}
-use Rattle.reports.specs.Reports.{freedomAfter, ImpliedLine, EdgeLine, figures, bookLine, bookText, ForestLine}
+use Rattle.reports.specs.Reports.{freedomAfter, ImpliedLine, EdgeLine, figures, bookLine, bookLines, ForestLine}
 use Rattle.reports.specs.Sections.{Nth}
 use Rattle.reports.specs.Steps.{Puts, report, certificate}
 use Rattle.reports.proofs.Sections.{line-first, line-behind, nth-as}
@@ -68,9 +68,9 @@ module _ (B : Book) {s after : List ℕ} {r : ℕ} where
   unfolding at
   forest-kept e ne w = puts-of _ (inl (forest-some B e ne, refl)) w
 
-  pub certificate-text : (i : ℕ) → i < bookText B .number → Writes (bookLine B i) s after r → Puts (certificate .Says B i) s after r
+  pub certificate-text : (i : ℕ) → i < bookLines B .number → Writes (bookLine B i) s after r → Puts (certificate .Says B i) s after r
   certificate-text i less w = puts-of _ (line-first _ _ i _ less refl) w
 
-  pub certificate-forest : (i : ℕ) → bookText B .number ≤ i → i - bookText B .number < B .count
-      → Puts (ForestLine B (λ e. keptOf B) (suc (i - bookText B .number))) s after r → Puts (certificate .Says B i) s after r
-  certificate-forest i past less = puts-as (λ bytes x. line-behind _ _ i bytes past (line-first _ _ (i - bookText B .number) bytes less x))
+  pub certificate-forest : (i : ℕ) → bookLines B .number ≤ i → i - bookLines B .number < B .count
+      → Puts (ForestLine B (λ e. keptOf B) (suc (i - bookLines B .number))) s after r → Puts (certificate .Says B i) s after r
+  certificate-forest i past less = puts-as (λ bytes x. line-behind _ _ i bytes past (line-first _ _ (i - bookLines B .number) bytes less x))

@@ -13,7 +13,7 @@ use Rattle.tables.specs.Tables.{Tabled}
 use Rattle.text.specs.Puts.{Writes}
 use Rattle.reports.specs.declared.Received.{Received}
 use Rattle.reports.specs.Steps.{Form, Lines, lineRoom}
-use Rattle.pager.specs.declared.Filled.{Filled}
+use Rattle.pager.specs.declared.PageEnd.{PageEnd}
 
 -- the book is sound, and the tables hold its forests
 pub record Known (B : Book) (root way edge : List ℕ) : Type 0 where
@@ -28,7 +28,7 @@ pub record Tally (B : Book) (i kept : ℕ) : Type 0 where
   pub counts : i ≤ B .count → kept ≡ count (keptOf B) i
 
 -- the lines from i on, up to the one before j, stand one behind the other in the first places
-pub record Run (form : Form) (B : Book) (i : ℕ) (before after : List ℕ) (j end : ℕ) : Type 0 where
+pub record LinesRun (form : Form) (B : Book) (i : ℕ) (before after : List ℕ) (j end : ℕ) : Type 0 where
   pub bytes : List ℕ
   pub are-lines : Lines form B Received.Fine (length before) i j bytes
   pub writes : Writes bytes before after end
@@ -36,6 +36,6 @@ pub record Run (form : Form) (B : Book) (i : ℕ) (before after : List ℕ) (j e
   pub within : end ≤ length before
 
 -- and no line more is there, or has room
-pub record FullRun (form : Form) (B : Book) (i : ℕ) (before after : List ℕ) (filled : Filled) : Type 0 where
-  pub run : Run form B i before after (filled .line) (filled .end)
+pub record FullRun (form : Form) (B : Book) (i : ℕ) (before after : List ℕ) (filled : PageEnd) : Type 0 where
+  pub run : LinesRun form B i before after (filled .line) (filled .end)
   pub whole : (form .number B ≤ filled .line) ⊎ (length before < filled .end + lineRoom)

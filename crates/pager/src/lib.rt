@@ -209,7 +209,7 @@ fn line(
 }
 
 // How far a page has come: the line that is next, and the end of what is written.
-pub struct Filled {
+pub struct PageEnd {
     pub line: u16,
     pub end: usize,
 }
@@ -223,7 +223,7 @@ fn fill(
     way: &[u64; 384],
     edge: &[u16; 384],
     buffer: &mut [u8],
-) -> Filled
+) -> PageEnd
     requires { ⌜ Known book (now root) (now way) (now edge) ⌝ }
     ensures { λ r. ⌜ FullRun (formOf kind) book first (now (buffer .entry)) (now (buffer .exit)) r ⌝ }
 {
@@ -233,14 +233,14 @@ fn fill(
     let mut end: usize = 0;
     while i < number {
         if buffer.len() - end < 2048 {
-            return Filled { line: i, end: end };
+            return PageEnd { line: i, end: end };
         }
         let more = line(kind, book, i, kept, root, way, edge, &mut buffer[end..]);
         end = end + more;
         kept = kept_after(book, i, kept);
         i = i + 1;
     }
-    Filled { line: i, end: end }
+    PageEnd { line: i, end: end }
 }
 
 // The state with so many lines written.

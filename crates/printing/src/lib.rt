@@ -11,9 +11,9 @@ ghost use lib.ListN.{take};
 ghost use Rattle.io.specs.Counts.{Counts};
 ghost use Rattle.printing.specs.Sending.{Sendable, Sends, BeforeTurn, TurnSent, LinesSent, TextSent, Got, InputSent, Printed};
 pub use output::Sent;
+use pager::Kind;
 use reports::Line;
 use reports::State;
-use pager::Kind;
 
 // ---- the input
 

@@ -5,9 +5,9 @@ ghost use mathlib.Core.Path.{_≡_};
 ghost use Rattle.reports.specs.Steps.{Page};
 ghost use Rattle.pager.specs.Kinds.{formOf};
 ghost use Rattle.printing.specs.Sending.{AtFirstLine, NothingSent, Sendable, Sends};
+use pager::Kind;
 use reports::State;
 use reports::Stepped;
-use pager::Kind;
 
 // Of which report or certificate lines were handed over, the state after them, and whether a read or a write has failed.
 pub struct Sent {

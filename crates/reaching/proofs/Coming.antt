@@ -13,7 +13,7 @@ use Rattle.rule.proofs.Tests.{never, same-test, by-eq, or-l, or-r, or-elim, put
 use Rattle.rule.proofs.Counting.{count-pos, count-with, count-without, numbers-eq, length-numbers}
 use Rattle.words.specs.Bits.{Lowest, Without}
 use Rattle.reaching.specs.Laid.{Laid, TakesIn}
-use Rattle.reaching.specs.Words.{Carries, Came}
+use Rattle.reaching.specs.Words.{Carries, CameToWait}
 use Rattle.reaching.proofs.Laid.{laid-none, laid-repeat}
 use Rattle.reaching.proofs.Numbers.{numbers-none}
 use Rattle.reaching.proofs.Bits.{carries-none, carries-without}
@@ -24,7 +24,7 @@ pub record Reaching (of : ℕ → ℕ) (edges : Set) (most size place : ℕ) (qu
   pub carried : Carries of left todo most
   pub either : (y : ℕ) → In most y → edges y ≡ (done y or todo y)
   pub apart : (y : ℕ) → Is (todo y) → ¬ (Is (done y))
-  pub came : Came (numbers done most) size place queue₀ from₀ queue from n
+  pub came : CameToWait (numbers done most) size place queue₀ from₀ queue from n
   pub room : n + count todo most ≤ 379
 
 pub reaching-begins : (of : ℕ → ℕ) (edges : Set) (most size place word : ℕ) (queue from : List ℕ) → Carries of word edges most → size + count edges most ≤ 379
@@ -37,7 +37,7 @@ reaching-begins of edges most size place word queue from c room lq lf =
       either = λ y _. same-test _ _ (λ t. or-r false _ t) (λ t. ⊎-elim never (λ k. k) (or-elim _ _ t));
       apart = λ y _ t. false≢true t;
       came =
-          subst (λ (l : List ℕ). Came l size place queue from queue from size) (sym (numbers-none (λ _. false) most (λ _ _ t. false≢true t)))
+          subst (λ (l : List ℕ). CameToWait l size place queue from queue from size) (sym (numbers-none (λ _. false) most (λ _ _ t. false≢true t)))
           (record { waits = laid-none queue size (omega arith); reached = laid-none from size (omega arith); counts = omega arith });
       room = room;
     }
@@ -51,9 +51,9 @@ module _ {of : ℕ → ℕ} {edges : Set} {most size place : ℕ} {queue₀ from
       omega (arith, r .room, count-pos (r .todo) most (of t) (k .0) (k .1))
 
   -- nothing is left
-  pub reaching-ends : left ≡ 0 → Came (numbers edges most) size place queue₀ from₀ queue from n
+  pub reaching-ends : left ≡ 0 → CameToWait (numbers edges most) size place queue₀ from₀ queue from n
   reaching-ends z =
-      subst (λ (l : List ℕ). Came l size place queue₀ from₀ queue from n)
+      subst (λ (l : List ℕ). CameToWait l size place queue₀ from₀ queue from n)
       (numbers-eq (r .done) edges most
       (λ y h.
       same-test _ _ (λ t. r .either y h ∙ or-l _ _ t)
@@ -63,7 +63,7 @@ module _ {of : ℕ → ℕ} {edges : Set} {most size place : ℕ} {queue₀ from
   -- the edge of a bit comes to wait
   module _ {t rest : ℕ} {queue′ : List ℕ} (low : Lowest left t) (w : Without left t rest) (enough : length from₀ ≡ 379)
       (takes : TakesIn (of t) size n queue queue′) where
-    one-more : Came (numbers (r .done with of t) most) size place queue₀ from₀ queue′ (set from n place) (n + 1)
+    one-more : CameToWait (numbers (r .done with of t) most) size place queue₀ from₀ queue′ (set from n place) (n + 1)
     one-more =
         let k = r .carried .number t (low .small) (low .is-set) in
         let new = r .apart (of t) (k .1) in

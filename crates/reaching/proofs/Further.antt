@@ -17,7 +17,7 @@ use Rattle.rule.specs.Forests.{limit, inForest}
 use Rattle.rule.proofs.Tests.{is-false, eq-of, eq-is, by-eq}
 use Rattle.rule.proofs.Counting.{length-numbers}
 use Rattle.theory.specs.Joined.{spans}
-use Rattle.theory.specs.Search.{Waiting, edgeAt, fresh, reach, pick, tryForest}
+use Rattle.theory.specs.Search.{Waiting, edgeAt, fresh, reach, pickResult, tryForest}
 use Rattle.theory.specs.Search.Result.{found, going}
 use Rattle.theory.proofs.Exchange.Step.{path-in}
 use Rattle.theory.proofs.Legal.Kept.{forest-is}
@@ -25,8 +25,8 @@ use Rattle.theory.proofs.Search.Reached.{size, Reached, Grows, reach-grows, rea
 use Rattle.words.specs.Bits.{bit}
 use Rattle.words.proofs.Bits.{bit-or}
 use Rattle.tables.specs.Tables.{word, slot, filled}
-use Rattle.reaching.specs.Words.{Came}
-use Rattle.reaching.specs.Setting.{Setting, Holds, State}
+use Rattle.reaching.specs.Words.{CameToWait}
+use Rattle.reaching.specs.Setting.{Setting, HoldsWaiting, SearchState}
 use Rattle.reaching.specs.Trying.{Further}
 use Rattle.reaching.proofs.Laid.{laid-length, laid-front}
 use Rattle.reaching.proofs.Bits.{or-none}
@@ -39,25 +39,25 @@ module _ (d : Design) (forest : ℕ → ℕ) (place x f : ℕ) (w : Waiting) whe
   pub try-own : forest x ≡ f → tryForest d forest place x f w ≡ going w
   unfolding tryForest
   try-own q =
-      ap (λ (b : Bool). pick b (going w) (pick (spans d (inForest forest f) x) (going (reach d forest place x f w)) (found place f w))) (eq-is _ _ q)
+      ap (λ (b : Bool). pickResult b (going w) (pickResult (spans d (inForest forest f) x) (going (reach d forest place x f w)) (found place f w))) (eq-is _ _ q)
 
   try-other : forest x ≢ f
-      → tryForest d forest place x f w ≡ pick (spans d (inForest forest f) x) (going (reach d forest place x f w)) (found place f w)
+      → tryForest d forest place x f w ≡ pickResult (spans d (inForest forest f) x) (going (reach d forest place x f w)) (found place f w)
   unfolding tryForest
   try-other ne =
-      ap (λ (b : Bool). pick b (going w) (pick (spans d (inForest forest f) x) (going (reach d forest place x f w)) (found place f w)))
+      ap (λ (b : Bool). pickResult b (going w) (pickResult (spans d (inForest forest f) x) (going (reach d forest place x f w)) (found place f w)))
       (is-false _ (λ t. ne (eq-of _ _ t)))
 
   pub try-joined : forest x ≢ f → Is (spans d (inForest forest f) x) → tryForest d forest place x f w ≡ going (reach d forest place x f w)
-  try-joined ne t = try-other ne ∙ ap (λ (b : Bool). pick b (going (reach d forest place x f w)) (found place f w)) t
+  try-joined ne t = try-other ne ∙ ap (λ (b : Bool). pickResult b (going (reach d forest place x f w)) (found place f w)) t
 
   pub try-free : forest x ≢ f → ¬ (Is (spans d (inForest forest f) x)) → tryForest d forest place x f w ≡ found place f w
-  try-free ne n = try-other ne ∙ ap (λ (b : Bool). pick b (going (reach d forest place x f w)) (found place f w)) (is-false _ n)
+  try-free ne n = try-other ne ∙ ap (λ (b : Bool). pickResult b (going (reach d forest place x f w)) (found place f w)) (is-false _ n)
 
 -- ---- the arrays
 
 module _ {d : Design} {forest : ℕ → ℕ} {root way who edge sizes : List ℕ} (s : Setting d forest root way who edge sizes) (w : Waiting)
-    (queue from seen : List ℕ) (state : State d forest edge sizes queue from seen w) (place x f : ℕ) (here : place < size w) (is-x : edgeAt w place ≡ x)
+    (queue from seen : List ℕ) (state : SearchState d forest edge sizes queue from seen w) (place x f : ℕ) (here : place < size w) (is-x : edgeAt w place ≡ x)
     (allowed : In (limit d x) f) where
   abbrev next : Waiting
   next = reach d forest place x f w
@@ -82,7 +82,7 @@ module _ {d : Design} {forest : ℕ → ℕ} {root way who edge sizes : List ℕ
   pub next-room : size w + count (fresh d forest w x f) (d .m) ≤ 379
   next-room = omega (arith, next-size, few-wait s next next-sound, length-numbers (fresh d forest w x f) (d .m))
 
-  next-holds : (queue′ from′ : List ℕ) (n : ℕ) → Came news (size w) place queue from queue′ from′ n → Holds next queue′ from′
+  next-holds : (queue′ from′ : List ℕ) (n : ℕ) → CameToWait news (size w) place queue from queue′ from′ n → HoldsWaiting next queue′ from′
   unfolding reach
   next-holds queue′ from′ n c =
       record {
@@ -118,7 +118,7 @@ module _ {d : Design} {forest : ℕ → ℕ} {root way who edge sizes : List ℕ
         ∙ state .marks i j hi h
         ∙ sym (or-none (w .seen (slot edge i j)) _ (λ t. ne (sym (s .tabled .slots i hi .edge-in j h .1) ∙ forest-is forest f _ (path-in d (inForest forest f) x _ t)))))
 
-    pub reached-further : (queue′ from′ : List ℕ) (n : ℕ) → Came news (size w) place queue from queue′ from′ n
+    pub reached-further : (queue′ from′ : List ℕ) (n : ℕ) → CameToWait news (size w) place queue from queue′ from′ n
         → (n ≡ size next) × Further d forest edge sizes w queue′ from′ (set seen (f - 1) both) next
     reached-further queue′ from′ n c = (
       c .counts ∙ sym next-size,

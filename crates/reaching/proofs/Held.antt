@@ -7,13 +7,13 @@ use native.Mathlib.Omega.{arith}
 use lib.ListN.{length, getD, take, length-take}
 use lib.Seq.{getD-take}
 use Rattle.theory.specs.Search.{Waiting, edgeAt, fromAt}
-use Rattle.reaching.specs.Setting.{Holds}
+use Rattle.reaching.specs.Setting.{HoldsWaiting}
 
 -- the front of an array
 pub front-at : (whole list : List ℕ) (n p : ℕ) → take n whole ≡ list → p < n → getD whole p 0 ≡ getD list p 0
 front-at whole list n p q h = sym (getD-take n whole p 0 h) ∙ ap (λ (l : List ℕ). getD l p 0) q
 
-module _ {w : Waiting} {queue from : List ℕ} (h : Holds w queue from) where
+module _ {w : Waiting} {queue from : List ℕ} (h : HoldsWaiting w queue from) where
   pub held-edge : (p : ℕ) → p < length (w .queue) → getD queue p 0 ≡ edgeAt w p
   held-edge p l = front-at queue (w .queue) (length (w .queue)) p (h .queued) l
 

@@ -17,7 +17,7 @@ use Rattle.theory.proofs.Legal.Kept.{limit-most}
 use Rattle.theory.proofs.Search.Reached.{size, grows-refl}
 use Rattle.tables.specs.Tables.{start, label, word}
 use Rattle.reaching.specs.declared.Tried.the-variants.{Free, Waits}
-use Rattle.reaching.specs.Words.{Carries, standing, Coming, Came}
+use Rattle.reaching.specs.Words.{Carries, standingAt, Coming, CameToWait}
 use Rattle.reaching.specs.Trying.{Tells, Trying, After}
 use Rattle.reaching.proofs.Held.{held-few}
 use Rattle.reaching.proofs.Paths.{joined-ends, carries-fresh}
@@ -61,14 +61,14 @@ module _ {u v place n : ℕ} {root way edge queue from seen : List ℕ} (t : Try
       between = is-on ∙ ap₂ (λ (a b : ℕ). bitXor (word way f a) (word way f b)) (sym (t .one)) (sym (t .other))
 
       -- what comes to wait
-      abbrev pub path-comes : Coming (standing edge (start f)) (bitXor (bitOr (getD seen (f - 1) 0) on) (getD seen (f - 1) 0)) n 379
+      abbrev pub path-comes : Coming (standingAt edge (start f)) (bitXor (bitOr (getD seen (f - 1) 0) on) (getD seen (f - 1) 0)) n 379
       path-comes =
           record {
             edges = fresh (t .d) (t .forest) (t .w) (t .x) f;
             most = t .d .m;
             carried =
                 subst
-                (λ (o : ℕ). Carries (standing edge (start f)) (bitXor (bitOr (getD seen (f - 1) 0) o) (getD seen (f - 1) 0)) (fresh (t .d) (t .forest) (t .w) (t .x) f) (t .d .m))
+                (λ (o : ℕ). Carries (standingAt edge (start f)) (bitXor (bitOr (getD seen (f - 1) 0) o) (getD seen (f - 1) 0)) (fresh (t .d) (t .forest) (t .w) (t .x) f) (t .d .m))
                 (sym between)
                 (carries-fresh (t .setting) (t .x) f is-edge one-of-six spanned (t .w) (getD seen (f - 1) 0) (λ j h. t .state .marks f j one-of-six h));
             room =
@@ -77,7 +77,7 @@ module _ {u v place n : ℕ} {root way edge queue from seen : List ℕ} (t : Try
           }
 
       pub joined-answers : {queue′ from′ : List ℕ} {r : ℕ} → t .forest (t .x) ≢ f
-          → Came (numbers (fresh (t .d) (t .forest) (t .w) (t .x) f) (t .d .m)) n place queue from queue′ from′ r
+          → CameToWait (numbers (fresh (t .d) (t .forest) (t .w) (t .x) f) (t .d .m)) n place queue from queue′ from′ r
           → Tells (After t queue′ from′ (set seen (f - 1) (bitOr (getD seen (f - 1) 0) on))) place (tryForest (t .d) (t .forest) place (t .x) f (t .w)) (Waits r)
       joined-answers {queue′ = queue′} {from′ = from′} {r = r} ne c =
           record {
@@ -88,5 +88,5 @@ module _ {u v place n : ℕ} {root way edge queue from seen : List ℕ} (t : Try
                 (λ (o : ℕ). (r ≡ size (reach (t .d) (t .forest) place (t .x) f (t .w))) × After t queue′ from′ (set seen (f - 1) (bitOr (getD seen (f - 1) 0) o)) (reach (t .d) (t .forest) place (t .x) f (t .w)))
                 (sym between)
                 (reached-further (t .setting) (t .w) queue from seen (t .state) place (t .x) f waits-here (t .is-x) allowed is-edge one-of-six spanned queue′ from′ r
-                (subst (λ (j : ℕ). Came (numbers (fresh (t .d) (t .forest) (t .w) (t .x) f) (t .d .m)) j place queue from queue′ from′ r) (t .waits) c));
+                (subst (λ (j : ℕ). CameToWait (numbers (fresh (t .d) (t .forest) (t .w) (t .x) f) (t .d .m)) j place queue from queue′ from′ r) (t .waits) c));
           }

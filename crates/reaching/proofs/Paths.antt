@@ -18,7 +18,7 @@ use Rattle.theory.proofs.Legal.Kept.{forest-make, forest-is}
 use Rattle.words.specs.Bits.{bit}
 use Rattle.words.proofs.Bits.{_differs_, bit-xor, bit-or, differs-same, same-differs}
 use Rattle.tables.specs.Tables.{start, label, word, slot, filled}
-use Rattle.reaching.specs.Words.{Carries, standing}
+use Rattle.reaching.specs.Words.{Carries, standingAt}
 use Rattle.reaching.specs.Setting.{Setting}
 
 -- what is in one word and not in another
@@ -96,7 +96,7 @@ module _ {d : Design} {forest : ℕ → ℕ} {root way who edge sizes : List ℕ
       unfolding fresh
       fresh-forest y t = forest-is forest f y (path-in d (inForest forest f) x y (and-l _ _ t))
 
-      pub carries-fresh : Carries (standing edge (start f)) news (fresh d forest w x f) (d .m)
+      pub carries-fresh : Carries (standingAt edge (start f)) news (fresh d forest w x f) (d .m)
       carries-fresh =
           record {
             number = λ j _ t. (slot-edge j (on-slot j (new-on j t)), new-fresh j t);

@@ -19,14 +19,14 @@ pub record Setting (d : Design) (forest : ℕ → ℕ) (root way who edge size :
   pub tabled : Tabled d forest root way who edge size
 
 -- the first places of the two arrays hold what waits
-pub record Holds (w : Waiting) (queue from : List ℕ) : Type 0 where
+pub record HoldsWaiting (w : Waiting) (queue from : List ℕ) : Type 0 where
   pub queued : take (length (w .queue)) queue ≡ w .queue
   pub reached : take (length (w .queue)) from ≡ w .from
   pub places : (length queue ≡ 379) × (length from ≡ 379)
 
 -- and a word for each forest says which of its slots have been seen
-pub record State (d : Design) (forest : ℕ → ℕ) (edge size : List ℕ) (queue from seen : List ℕ) (w : Waiting) : Type 0 where
+pub record SearchState (d : Design) (forest : ℕ → ℕ) (edge size : List ℕ) (queue from seen : List ℕ) (w : Waiting) : Type 0 where
   pub sound : Reached d forest (d .m) w
-  pub holds : Holds w queue from
+  pub holds : HoldsWaiting w queue from
   pub marks : (f j : ℕ) → In 6 f → j < filled size f → bit (getD seen (f - 1) 0) j ≡ w .seen (slot edge f j)
   pub words : length seen ≡ 6

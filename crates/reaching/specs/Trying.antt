@@ -9,7 +9,7 @@ use Rattle.theory.specs.Search.Result.{found, going}
 use Rattle.theory.proofs.Search.Reached.{Grows}
 use Rattle.reaching.specs.declared.Tried.{Tried}
 use Rattle.reaching.specs.declared.Tried.the-variants.{Free, Waits}
-use Rattle.reaching.specs.Setting.{Setting, State}
+use Rattle.reaching.specs.Setting.{Setting, SearchState}
 
 -- the model has come to an outcome with edges waiting of which P holds
 pub record Comes (P : Waiting → Type 0) (outcome : Waiting → Result) (model : Result) : Type 0 where
@@ -30,7 +30,7 @@ pub record Trying (u v place n : ℕ) (root way edge queue from seen : List ℕ)
   pub size : List ℕ
   pub setting : Setting d forest root way who edge size
   pub w : Waiting
-  pub state : State d forest edge size queue from seen w
+  pub state : SearchState d forest edge size queue from seen w
   pub waits : n ≡ length (w .queue)
   pub here : place < n
   pub x : ℕ
@@ -40,7 +40,7 @@ pub record Trying (u v place n : ℕ) (root way edge queue from seen : List ℕ)
 
 -- after some forests of x the arrays hold v, which has what waited before and perhaps more behind
 pub record Further (d : Design) (forest : ℕ → ℕ) (edge size : List ℕ) (w : Waiting) (queue from seen : List ℕ) (v : Waiting) : Type 0 where
-  pub state : State d forest edge size queue from seen v
+  pub state : SearchState d forest edge size queue from seen v
   pub grows : Grows w v
 
 abbrev pub After : {u v place n : ℕ} {root way edge queue from seen : List ℕ} → Trying u v place n root way edge queue from seen → (queue′ from′ seen′ : List ℕ)

@@ -14,8 +14,8 @@ pub record Carries (of : ℕ → ℕ) (word : ℕ) (s : Set) (m : ℕ) : Type 0 
   pub once : (i j : ℕ) → i < 64 → j < 64 → Is (bit word i) → Is (bit word j) → of i ≡ of j → i ≡ j
 
 -- the numbers that stand in a table from the index `base` on
-abbrev pub standing : List ℕ → ℕ → ℕ → ℕ
-standing table base j = getD table (base + j) 0
+abbrev pub standingAt : List ℕ → ℕ → ℕ → ℕ
+standingAt table base j = getD table (base + j) 0
 
 -- the edges of a word are to be written behind the first `size` places, of so many
 pub record Coming (of : ℕ → ℕ) (word size places : ℕ) : Type 0 where
@@ -25,7 +25,7 @@ pub record Coming (of : ℕ → ℕ) (word size places : ℕ) : Type 0 where
   pub room : size + count edges most ≤ places
 
 -- the edges of a list wait behind the first `size`, each of them reached from a place
-pub record Came (list : List ℕ) (size place : ℕ) (queue from queue′ from′ : List ℕ) (size′ : ℕ) : Type 0 where
+pub record CameToWait (list : List ℕ) (size place : ℕ) (queue from queue′ from′ : List ℕ) (size′ : ℕ) : Type 0 where
   pub waits : Laid queue size list queue′
   pub reached : Laid from size (replicate (length list) place) from′
   pub counts : size′ ≡ size + length list

@@ -7,7 +7,7 @@ ghost use Rattle.rule.specs.Sets.{In, numbers};
 ghost use Rattle.rule.specs.Forests.{limit};
 ghost use Rattle.theory.specs.Search.{tryForest, tryForests};
 ghost use Rattle.reaching.specs.Laid.{TakesIn};
-ghost use Rattle.reaching.specs.Words.{Coming, standing, Came};
+ghost use Rattle.reaching.specs.Words.{Coming, standingAt, CameToWait};
 ghost use Rattle.reaching.specs.Trying.{Tells, Trying, After};
 
 // What trying forests brought: one of them is free; or none, and so many edges wait now.
@@ -44,9 +44,9 @@ fn reach(
     size: usize,
     place: u16,
 ) -> usize
-    requires { ⌜ (base ≤ 320) × (length (now queue) ≡ 379) × (length (now from) ≡ 379) × Coming (standing (now edge) base) word size 379 ⌝ }
-    ensures { λ r. ⌜ ((t : Coming (standing (now (edge .entry)) base) word size 379)
-        → Came (numbers (t .edges) (t .most)) size place (now (queue .entry)) (now (from .entry)) (now (queue .exit)) (now (from .exit)) r) ⌝ }
+    requires { ⌜ (base ≤ 320) × (length (now queue) ≡ 379) × (length (now from) ≡ 379) × Coming (standingAt (now edge) base) word size 379 ⌝ }
+    ensures { λ r. ⌜ ((t : Coming (standingAt (now (edge .entry)) base) word size 379)
+        → CameToWait (numbers (t .edges) (t .most)) size place (now (queue .entry)) (now (from .entry)) (now (queue .exit)) (now (from .exit)) r) ⌝ }
 {
     let mut left = word;
     let mut n = size;

@@ -5,10 +5,10 @@ ghost use Rattle.rule.specs.Calls.{newBook};
 ghost use Rattle.text.specs.Sheets.{SheetRange};
 ghost use Rattle.text.specs.EdgeLists.{lists, Roomy, edgesIn, sheetIn};
 ghost use Rattle.reports.specs.Reads.{Offers, Receives};
+use engine::Head;
 use reports::Read;
 use reports::Received;
 use reports::State;
-use engine::Head;
 use rule::Book;
 use text::Judgement;
 

@@ -17,7 +17,7 @@ use Rattle.rule.proofs.Determined.{circuit-determined, groups-determined as gro
 use Rattle.text.specs.Lines.{line}
 use Rattle.reports.specs.Keys.{key-implied, key-groups}
 use Rattle.reports.specs.Sections.{Nth, forEach, linesIn}
-use Rattle.reports.specs.Reports.{ImpliedLine, EdgeLine, GroupsLine, figures, reportLines, ReportLine, bookText, ForestLine, certificateLines, CertificateLine}
+use Rattle.reports.specs.Reports.{ImpliedLine, EdgeLine, GroupsLine, figures, reportLines, ReportLine, bookLines, ForestLine, certificateLines, CertificateLine}
 use Rattle.reports.proofs.Sections.{Determined, exactly-determined, nth-determined, line-determined, line-within, line-is}
 
 -- ---- the line of an edge
@@ -72,7 +72,7 @@ module _ (B : Book) (among : ℕ → Set) where
   pub certificate-line-forest : (e : ℕ) → In (B .count) e → (bytes : List ℕ) → CertificateLine B among (B .count + e + 3) bytes → ForestLine B among e bytes
   unfolding linesIn
   certificate-line-forest e h bytes l =
-      let forest = line-is (bookText B ∷ []) (forEach (B .count) (ForestLine B among)) [] (e - 1) (B .count + e + 3) bytes
+      let forest = line-is (bookLines B ∷ []) (forEach (B .count) (ForestLine B among)) [] (e - 1) (B .count + e + 3) bytes
       (omega (arith, h .low, h .high)) (omega (arith, h .low)) l in
       let same : suc (e - 1) ≡ e = omega (arith, h .low) in
       subst (λ (z : ℕ). ForestLine B among z bytes) same forest

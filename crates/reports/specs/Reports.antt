@@ -75,8 +75,8 @@ bookLine B (suc (suc (suc zero))) = line key-edges (B .count ∷ [])
 bookLine B (suc (suc (suc (suc i)))) = edgeText (edgeOf B (suc i))
 
 -- all its lines
-abbrev pub bookText : Book → Section
-bookText B = record { number = 4 + B .count; Says = λ i. Exactly (bookLine B i) }
+abbrev pub bookLines : Book → Section
+bookLines B = record { number = 4 + B .count; Says = λ i. Exactly (bookLine B i) }
 
 -- ---- the certificate
 
@@ -88,7 +88,7 @@ ForestLine B among e bytes =
 
 -- the text of the book, and then a line for each edge in order
 abbrev pub certificateLines : Book → (among : ℕ → Set) → List Section
-certificateLines B among = bookText B ∷ forEach (B .count) (ForestLine B among) ∷ []
+certificateLines B among = bookLines B ∷ forEach (B .count) (ForestLine B among) ∷ []
 
 -- line i of a certificate
 abbrev pub CertificateLine : Book → (among : ℕ → Set) → ℕ → List ℕ → Type 0

@@ -15,7 +15,7 @@ use lib.Seq.{length-take-le, getD-take}
 use Rattle.rule.specs.declared.Book.{Book}
 use Rattle.rule.specs.declared.Done.{Done}
 use Rattle.rule.specs.Sets.{In, at, numbers}
-use Rattle.rule.specs.Figures.{Share, InGroup, Leads}
+use Rattle.rule.specs.Figures.{Share, InGroup, GroupLead}
 use Rattle.rule.specs.Books.{designOf, keptOf, Sound}
 use Rattle.rule.specs.Reasons.{Pass, groupsChecks}
 use Rattle.rule.specs.Calls.{Grouped}
@@ -68,7 +68,7 @@ module _ (B : Book) (sound : Sound B) where
     λ x. ⊎-elim (λ q. inl q) (λ r. inr (rigid-share u v r)) x,
   )
 
-  leads-iff : (u lead : ℕ) → In (B .n) u → (Leads (designOf B) (keptOf B) u lead ↔ LeastTogether B u lead)
+  leads-iff : (u lead : ℕ) → In (B .n) u → (GroupLead (designOf B) (keptOf B) u lead ↔ LeastTogether B u lead)
   unfolding designOf
   leads-iff u lead hu = (
     λ l.
@@ -118,10 +118,10 @@ module _ (B : Book) (list listed : List ℕ) where
     e .as-long,
   )
     where
-      lead : (u : ℕ) → In (B .n) u → Leads (designOf B) (keptOf B) u (at (take (B .n) listed) u)
+      lead : (u : ℕ) → In (B .n) u → GroupLead (designOf B) (keptOf B) u (at (take (B .n) listed) u)
       lead zero h = absurd (omega arith)
       lead (suc i) h =
-          subst (Leads (designOf B) (keptOf B) (suc i)) (sym (group-number (B .n) listed i (omega arith)))
+          subst (GroupLead (designOf B) (keptOf B) (suc i)) (sym (group-number (B .n) listed i (omega arith)))
           (leads-iff B (checked .0) (suc i) _ h .1 (e .leads i (omega arith)))
 
   pub groups-iff : Grouped B list listed Done.Fine ↔ (Pass (groupsChecks B list) × ExactGroups B list listed)

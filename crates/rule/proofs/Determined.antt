@@ -17,7 +17,7 @@ use Rattle.rule.specs.declared.Reason.{Reason}
 use Rattle.rule.specs.declared.Reason.the-variants.{Profile, Bodies, Body, SameBody, Colour, Full, Short, Unsound, Line}
 use Rattle.rule.specs.Sets.{Is, Set, In, below, at}
 use Rattle.rule.specs.Legal.{Design, Keeps, Circuit, Grown, Legal}
-use Rattle.rule.specs.Figures.{Leads, Groups}
+use Rattle.rule.specs.Figures.{GroupLead, Groups}
 use Rattle.rule.specs.Books.{Obeys, Sound, FirstBad}
 use Rattle.rule.specs.Reasons.{numberOf, placeOf, Check, Pass, Fail, soundness}
 use Rattle.rule.proofs.Tests.{same-test, by-le, below-in, below-lt, below-make}
@@ -29,7 +29,7 @@ use Rattle.rule.proofs.Legality.{legal-sub}
 pub circuit-determined : (d : Design) (kept : Set) (e : ℕ) {l₁ l₂ : List ℕ} → Circuit d kept e l₁ → Circuit d kept e l₂ → l₁ ≡ l₂
 circuit-determined d kept e x y = lists-determined x y
 
-pub lead-determined : {d : Design} {kept : Set} {u x y : ℕ} → Leads d kept u x → Leads d kept u y → x ≡ y
+pub lead-determined : {d : Design} {kept : Set} {u x y : ℕ} → GroupLead d kept u x → GroupLead d kept u y → x ≡ y
 lead-determined {x = x} {y} p q = le-antisymm (p .smallest y (q .body) (q .in-group)) (q .smallest x (p .body) (p .in-group))
 
 pub groups-determined : {d : Design} {kept : Set} {l₁ l₂ : List ℕ} → Groups d kept l₁ → Groups d kept l₂ → l₁ ≡ l₂

@@ -39,7 +39,7 @@ abbrev pub InGroup : Design → Set → ℕ → ℕ → Type 0
 InGroup d kept u v = (v ≡ u) ⊎ Share d kept u v
 
 -- the smallest body number of u's group
-pub record Leads (d : Design) (kept : Set) (u lead : ℕ) : Type 0 where
+pub record GroupLead (d : Design) (kept : Set) (u lead : ℕ) : Type 0 where
   pub body : In (d .n) lead
   pub in-group : InGroup d kept u lead
   pub smallest : (v : ℕ) → In (d .n) v → InGroup d kept u v → lead ≤ v
@@ -47,4 +47,4 @@ pub record Leads (d : Design) (kept : Set) (u lead : ℕ) : Type 0 where
 -- the group list: for each body in order, the smallest body number of its group
 pub record Groups (d : Design) (kept : Set) (list : List ℕ) : Type 0 where
   pub as-long : length list ≡ d .n
-  pub leads : (u : ℕ) → In (d .n) u → Leads d kept u (at list u)
+  pub leads : (u : ℕ) → In (d .n) u → GroupLead d kept u (at list u)

@@ -14,7 +14,7 @@ use Rattle.rule.specs.Legal.{Design, k}
 use Rattle.rule.specs.Forests.{limit}
 use Rattle.rule.specs.Books.{Edge, theEdge}
 use Rattle.rule.proofs.Tests.{is-false, lt-of, lt-is}
-use Rattle.theory.specs.Search.{Waiting, edgeAt, Result, andThen, pick, tryForests, turn, turns, search}
+use Rattle.theory.specs.Search.{Waiting, edgeAt, Result, andThen, pickResult, tryForests, turn, turns, search}
 use Rattle.theory.specs.Search.Result.{found, going}
 use Rattle.theory.proofs.Search.Reached.{size}
 use Rattle.theory.proofs.Search.Image.{size-most}
@@ -35,12 +35,12 @@ limit-is {d = d} {is = is} {a = a} g qa qk =
 
 turn-taken : (d : Design) (forest : ℕ → ℕ) (q : ℕ) (w : Waiting) → q < size w → turn d forest q w ≡ tryForests d forest q (edgeAt w q) (limit d (edgeAt w q)) w
 unfolding turn
-turn-taken d forest q w h = ap (λ (b : Bool). pick b (tryForests d forest q (edgeAt w q) (limit d (edgeAt w q)) w) (going w)) (lt-is q (size w) h)
+turn-taken d forest q w h = ap (λ (b : Bool). pickResult b (tryForests d forest q (edgeAt w q) (limit d (edgeAt w q)) w) (going w)) (lt-is q (size w) h)
 
 turn-idle : (d : Design) (forest : ℕ → ℕ) (q : ℕ) (w : Waiting) → size w ≤ q → turn d forest q w ≡ going w
 unfolding turn
 turn-idle d forest q w h =
-    ap (λ (b : Bool). pick b (tryForests d forest q (edgeAt w q) (limit d (edgeAt w q)) w) (going w)) (is-false _ (λ t. let l = lt-of q (size w) t in omega arith))
+    ap (λ (b : Bool). pickResult b (tryForests d forest q (edgeAt w q) (limit d (edgeAt w q)) w) (going w)) (is-false _ (λ t. let l = lt-of q (size w) t in omega arith))
 
 module _ {a k′ : ℕ} {ones others colours forests root way edge : List ℕ} (g : Given a k′ ones others colours forests root way edge) where
   -- the turns of the places before q

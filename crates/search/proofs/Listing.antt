@@ -13,7 +13,7 @@ use Rattle.rule.proofs.Counting.{length-numbers}
 use Rattle.words.specs.Bits.{Lowest, Without}
 use Rattle.reaching.specs.Laid.{Laid}
 use Rattle.reaching.specs.Words.{Carries, Coming}
-use Rattle.search.specs.Marks.{Written}
+use Rattle.search.specs.Marks.{MarksWritten}
 use Rattle.reaching.proofs.Laid.{laid-none, laid-more}
 use Rattle.reaching.proofs.Numbers.{numbers-none}
 use Rattle.search.proofs.Numbers.{numbers-first}
@@ -33,7 +33,7 @@ pub record Listing (base : ℕ) (edges : Set) (most size : ℕ) (before now : Li
   pub todo : Set
   pub carried : Carries (λ j. base + j) left todo most
   pub all : done ++ numbers todo most ≡ numbers edges most
-  pub written : Written before size done now n
+  pub written : MarksWritten before size done now n
 
 module _ {base size word : ℕ} {before : List ℕ} (t : Coming (λ j. base + j) word size (length before)) where
   pub listing-begins : Listing base (t .edges) (t .most) size before before word size
@@ -47,9 +47,9 @@ module _ {base size word : ℕ} {before : List ℕ} (t : Coming (λ j. base + j)
       }
 
   module _ {now : List ℕ} {left n : ℕ} (r : Listing base (t .edges) (t .most) size before now left n) where
-    pub listing-ends : left ≡ 0 → Written before size (numbers (t .edges) (t .most)) now n
+    pub listing-ends : left ≡ 0 → MarksWritten before size (numbers (t .edges) (t .most)) now n
     listing-ends z =
-        subst (λ (l : List ℕ). Written before size l now n)
+        subst (λ (l : List ℕ). MarksWritten before size l now n)
         (sym (append-nil (r .done)) ∙ ap (λ (l : List ℕ). r .done ++ l) (sym (numbers-none (r .todo) (t .most) (carries-none (λ j. base + j) (r .todo) (t .most) left (r .carried) z))) ∙ r .all)
         (r .written)
 

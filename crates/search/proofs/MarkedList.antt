@@ -12,12 +12,12 @@ use Rattle.rule.proofs.Counting.{count-mono, numbers-eq, length-numbers}
 use Rattle.words.specs.Bits.{bit}
 use Rattle.reaching.specs.Laid.{Laid}
 use Rattle.reaching.specs.Words.{Carries, Coming}
-use Rattle.search.specs.Marks.{Written, isMarked, Markings}
+use Rattle.search.specs.Marks.{MarksWritten, isMarked, Markings}
 use Rattle.reaching.proofs.Laid.{laid-none, laid-then}
 use Rattle.reaching.proofs.Numbers.{numbers-none}
 use Rattle.search.proofs.Numbers.{numbers-split}
 
-written-then : {a b c l k : List ℕ} {n n′ : ℕ} → Written a 0 l b n → Written b n k c n′ → Written a 0 (l ++ k) c n′
+written-then : {a b c l k : List ℕ} {n n′ : ℕ} → MarksWritten a 0 l b n → MarksWritten b n k c n′ → MarksWritten a 0 (l ++ k) c n′
 written-then {b = b} {c = c} {l = l} {k = k} f g =
     record {
       laid = laid-then (f .laid) (subst (λ (j : ℕ). Laid b j k c) (f .counts) (g .laid));
@@ -96,19 +96,19 @@ module _ (marks : List ℕ) where
         }
 
   module _ {places : ℕ} (t : Markings marks places) {before : List ℕ} where
-    pub no-word : Written before 0 (numbers (passed 0) (t .m)) before 0
+    pub no-word : MarksWritten before 0 (numbers (passed 0) (t .m)) before 0
     no-word =
-        subst (λ (l : List ℕ). Written before 0 l before 0)
+        subst (λ (l : List ℕ). MarksWritten before 0 l before 0)
         (sym (numbers-none (passed 0) (t .m) (λ y _ s. absurd (omega (arith, below-lt (isMarked marks) 0 y s)))))
         (record { laid = laid-none before 0 (omega arith); counts = refl })
 
-    pub next-word : {now after : List ℕ} {n n′ : ℕ} (i : ℕ) → Written before 0 (numbers (passed i) (t .m)) now n → Written now n (numbers (inWord i) (t .m)) after n′
-        → Written before 0 (numbers (passed (i + 1)) (t .m)) after n′
-    next-word {after = after} {n′ = n′} i f g = subst (λ (l : List ℕ). Written before 0 l after n′) (sym (one-word-more (t .m) i)) (written-then f g)
+    pub next-word : {now after : List ℕ} {n n′ : ℕ} (i : ℕ) → MarksWritten before 0 (numbers (passed i) (t .m)) now n → MarksWritten now n (numbers (inWord i) (t .m)) after n′
+        → MarksWritten before 0 (numbers (passed (i + 1)) (t .m)) after n′
+    next-word {after = after} {n′ = n′} i f g = subst (λ (l : List ℕ). MarksWritten before 0 l after n′) (sym (one-word-more (t .m) i)) (written-then f g)
 
-    pub all-words : {now : List ℕ} {n : ℕ} (i : ℕ) → i ≡ 9 → Written before 0 (numbers (passed i) (t .m)) now n → Written before 0 (numbers (isMarked marks) (t .m)) now n
+    pub all-words : {now : List ℕ} {n : ℕ} (i : ℕ) → i ≡ 9 → MarksWritten before 0 (numbers (passed i) (t .m)) now n → MarksWritten before 0 (numbers (isMarked marks) (t .m)) now n
     all-words {now = now} {n = n} i nine f =
-        subst (λ (l : List ℕ). Written before 0 l now n)
+        subst (λ (l : List ℕ). MarksWritten before 0 l now n)
         (numbers-eq (passed i) (isMarked marks) (t .m)
         (λ y h. same-test _ _ (λ s. below-in (isMarked marks) (i * 64) y s) (λ s. below-make (isMarked marks) (i * 64) y s (omega (arith, h .high, t .small)))))
         f

@@ -17,8 +17,8 @@ use Rattle.theory.specs.Search.{edgeAt}
 use Rattle.theory.proofs.Search.Image.{seen-count}
 use Rattle.words.specs.Bits.{bit}
 use Rattle.words.proofs.Bits.{bit-zero, bit-or, bit-power}
-use Rattle.search.specs.Marks.{Written, isMarked, Marked, Markings}
-use Rattle.search.specs.Ends.{Queued, Listed}
+use Rattle.search.specs.Marks.{MarksWritten, isMarked, Marked, Markings}
+use Rattle.search.specs.Ends.{Queued, CircuitListed}
 use Rattle.reaching.proofs.Bits.{zeros-at, or-none}
 use Rattle.reaching.proofs.Laid.{laid-first}
 use Rattle.reaching.proofs.Held.{front-at}
@@ -126,10 +126,10 @@ module _ {n : ℕ} {queue : List ℕ} (t : Queued n queue) where
           room = omega (arith, room, count-eq (isMarked marks) others (t .d .m) same, others-count, t .few);
         }
 
-    pub others-listed : {before after : List ℕ} {len : ℕ} → Written before 0 (numbers (isMarked marks) (t .d .m)) after len
-        → Listed (t .w) (t .d .m) n before after len
+    pub others-listed : {before after : List ℕ} {len : ℕ} → MarksWritten before 0 (numbers (isMarked marks) (t .d .m)) after len
+        → CircuitListed (t .w) (t .d .m) n before after len
     others-listed {before = before} {after = after} {len = len} f =
-        let g = subst (λ (l : List ℕ). Written before 0 l after len) (numbers-eq (isMarked marks) others (t .d .m) same) f in
+        let g = subst (λ (l : List ℕ). MarksWritten before 0 l after len) (numbers-eq (isMarked marks) others (t .d .m) same) f in
         record {
           in-order = laid-first (g .laid);
           counts = omega (arith, g .counts);

@@ -5,7 +5,7 @@ use Prim.Native.Nat.{ℕ}
 use lib.ListN.{length}
 use Rattle.theory.specs.Search.{Waiting, Result, turns, search}
 use Rattle.theory.specs.Search.Result.{found, going}
-use Rattle.reaching.specs.Setting.{Holds, State}
+use Rattle.reaching.specs.Setting.{HoldsWaiting, SearchState}
 use Rattle.reaching.specs.Trying.{Comes}
 use Rattle.search.specs.declared.Outcome.{Outcome}
 use Rattle.search.specs.declared.Outcome.the-variants.{Found, Stuck}
@@ -20,9 +20,9 @@ Answers P model (Stuck n) = Comes (λ w. (n ≡ length (w .queue)) × P w) going
 abbrev pub Turned : {a k : ℕ} {ones others colours forests root way edge : List ℕ} → Given a k ones others colours forests root way edge
     → (queue from seen : List ℕ) (places : ℕ) → Outcome → Type 0
 Turned {edge = edge} g queue from seen places =
-    Answers (State (g .d) (g .forest) edge (g .size) queue from seen) (turns (g .d) (g .forest) (g .d .m) places)
+    Answers (SearchState (g .d) (g .forest) edge (g .size) queue from seen) (turns (g .d) (g .forest) (g .d .m) places)
 
 -- the whole search, and what waits at its end
 abbrev pub Searched : {a k : ℕ} {ones others colours forests root way edge : List ℕ} → Given a k ones others colours forests root way edge
     → (queue from : List ℕ) → Outcome → Type 0
-Searched g queue from = Answers (λ w. Holds w queue from) (search (g .d) (g .forest) (g .d .m))
+Searched g queue from = Answers (λ w. HoldsWaiting w queue from) (search (g .d) (g .forest) (g .d .m))

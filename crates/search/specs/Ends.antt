@@ -8,12 +8,12 @@ use Rattle.rule.specs.Legal.{Design}
 use Rattle.rule.specs.Calls.{Filled}
 use Rattle.theory.specs.Search.{Waiting, fromAt, pathTo}
 use Rattle.theory.proofs.Search.Reached.{Reached}
-use Rattle.reaching.specs.Setting.{Holds}
+use Rattle.reaching.specs.Setting.{HoldsWaiting}
 
 -- edges wait up to a place and perhaps behind it, each of them reached from an earlier place
 pub record Led (place : ℕ) (queue from : List ℕ) : Type 0 where
   pub w : Waiting
-  pub holds : Holds w queue from
+  pub holds : HoldsWaiting w queue from
   pub here : place < length (w .queue)
   pub earlier : (p : ℕ) → 1 ≤ p → p < length (w .queue) → fromAt w p < p
 
@@ -35,7 +35,7 @@ pub record Queued (n : ℕ) (queue : List ℕ) : Type 0 where
   pub queued : take n queue ≡ w .queue
 
 -- the others stand in the first places, smallest first; places past them are as they were
-pub record Listed (w : Waiting) (m n : ℕ) (before after : List ℕ) (len : ℕ) : Type 0 where
+pub record CircuitListed (w : Waiting) (m n : ℕ) (before after : List ℕ) (len : ℕ) : Type 0 where
   pub in-order : Filled (numbers (w .seen without m) m) before after
   pub counts : len ≡ length (numbers (w .seen without m) m)
   pub one-fewer : suc len ≡ n

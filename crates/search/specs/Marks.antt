@@ -8,7 +8,7 @@ use Rattle.words.specs.Bits.{bit}
 use Rattle.reaching.specs.Laid.{Laid}
 
 -- the list is written behind the first `size` places
-pub record Written (before : List ℕ) (size : ℕ) (list after : List ℕ) (size′ : ℕ) : Type 0 where
+pub record MarksWritten (before : List ℕ) (size : ℕ) (list after : List ℕ) (size′ : ℕ) : Type 0 where
   pub laid : Laid before size list after
   pub counts : size′ ≡ size + length list
 

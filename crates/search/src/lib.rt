@@ -8,8 +8,8 @@ ghost use Rattle.rule.specs.Books.{theEdge};
 ghost use Rattle.reaching.specs.Words.{Coming};
 ghost use Rattle.search.specs.Given.{Given, Sought};
 ghost use Rattle.search.specs.Answers.{Turned, Searched};
-ghost use Rattle.search.specs.Ends.{Led, Traced, Queued, Listed};
-ghost use Rattle.search.specs.Marks.{Written, isMarked, Marked, Markings};
+ghost use Rattle.search.specs.Ends.{Led, Traced, Queued, CircuitListed};
+ghost use Rattle.search.specs.Marks.{MarksWritten, isMarked, Marked, Markings};
 use reaching::Tried;
 
 // Where the search has come to: its end, at a place of the queue, in a forest where the edge there is free; or no end, and so many edges
@@ -218,7 +218,7 @@ fn mark(n: usize, queue: &[u16; 379], marks: &mut [u64; 9])
 fn list_word(base: u16, word: u64, start: usize, list: &mut [u16]) -> usize
     requires { ⌜ (base ≤ 512) × Coming (λ j. base + j) word start (length (now list)) ⌝ }
     ensures { λ r. ⌜ ((t : Coming (λ j. base + j) word start (length (now (list .entry))))
-        → Written (now (list .entry)) start (numbers (t .edges) (t .most)) (now (list .exit)) r) ⌝ }
+        → MarksWritten (now (list .entry)) start (numbers (t .edges) (t .most)) (now (list .exit)) r) ⌝ }
 {
     let mut left = word;
     let mut n = start;
@@ -235,7 +235,7 @@ fn list_word(base: u16, word: u64, start: usize, list: &mut [u16]) -> usize
 fn list_marked(marks: &[u64; 9], list: &mut [u16]) -> usize
     requires { ⌜ Markings (now marks) (length (now list)) ⌝ }
     ensures { λ r. ⌜ ((t : Markings (now (marks .entry)) (length (now (list .entry))))
-        → Written (now (list .entry)) 0 (numbers (isMarked (now (marks .entry))) (t .m)) (now (list .exit)) r) ⌝ }
+        → MarksWritten (now (list .entry)) 0 (numbers (isMarked (now (marks .entry))) (t .m)) (now (list .exit)) r) ⌝ }
 {
     let mut n: usize = 0;
     let mut i: usize = 0;
@@ -249,7 +249,7 @@ fn list_marked(marks: &[u64; 9], list: &mut [u16]) -> usize
 // The circuit: the edges that wait, but for the new one, in the first places of the list, smallest first, and how many they are.
 pub fn circuit(n: usize, queue: &[u16; 379], list: &mut [u16]) -> usize
     requires { ⌜ (378 ≤ length (now list)) × Queued n (now queue) ⌝ }
-    ensures { λ r. ⌜ ((t : Queued n (now (queue .entry))) → Listed (t .w) (t .d .m) n (now (list .entry)) (now (list .exit)) r) ⌝ }
+    ensures { λ r. ⌜ ((t : Queued n (now (queue .entry))) → CircuitListed (t .w) (t .d .m) n (now (list .entry)) (now (list .exit)) r) ⌝ }
 {
     let mut marks = [0u64; 9];
     mark(n, queue, &mut marks);

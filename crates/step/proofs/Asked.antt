@@ -19,10 +19,10 @@ use Rattle.theory.specs.Exchange.{shifted}
 use Rattle.theory.specs.Search.{pathTo}
 use Rattle.theory.proofs.Legal.Sound.{sound-head}
 use Rattle.book.specs.declared.Checked.{Checked}
-use Rattle.book.specs.Checks.{Found}
+use Rattle.book.specs.Checks.{FoundBy}
 use Rattle.engine.specs.declared.Head.{Head}
 use Rattle.engine.specs.Take.{longer}
-use Rattle.engine.specs.Seek.{bookOf, forestsFor, Seekable, Ends, Fails}
+use Rattle.engine.specs.Seek.{bookOf, forestsFor, Seekable, EndsIn, Fails}
 use Rattle.engine.proofs.Says.{found-says, stuck-says}
 use Rattle.step.specs.Answers.{answerOf, Askable}
 
@@ -33,11 +33,11 @@ module _ (B : Book) (given : Edge) (list : List ℕ) (more : Type 0) (c : Checke
   is-refused : answer ≡ Answer.Refused reason
   is-refused = handed ∙ ap answerOf q
 
-  pub offer-refused : Found (offerChecks B given list) more c → Offer B B given list list answer
-  offer-refused f = subst (Offer B B given list list) (sym is-refused) (subst (Found (offerChecks B given list) more) q f, refl, refl)
+  pub offer-refused : FoundBy (offerChecks B given list) more c → Offer B B given list list answer
+  offer-refused f = subst (Offer B B given list list) (sym is-refused) (subst (FoundBy (offerChecks B given list) more) q f, refl, refl)
 
-  pub question-refused : Found (questionChecks B given list) more c → Question B given list list answer
-  question-refused f = subst (Question B given list list) (sym is-refused) (subst (Found (questionChecks B given list) more) q f, refl)
+  pub question-refused : FoundBy (questionChecks B given list) more c → Question B given list list answer
+  question-refused f = subst (Question B given list list) (sym is-refused) (subst (FoundBy (questionChecks B given list) more) q f, refl)
 
 -- ---- the search
 
@@ -54,7 +54,7 @@ module _ (B : Book) (given : Edge) {list root way edge : List ℕ} (a : Askable 
         tabled = a .tabled;
       }
 
-  pub answers-kept : (path listed : List ℕ) (n f : ℕ) → Ends B given path n f → listed ≡ list → Question B given list listed (Kept n)
+  pub answers-kept : (path listed : List ℕ) (n f : ℕ) → EndsIn B given path n f → listed ≡ list → Question B given list listed (Kept n)
   answers-kept path listed n f e same =
       let s = asks in
       record {

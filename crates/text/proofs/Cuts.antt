@@ -20,7 +20,7 @@ use Rattle.grammar.proofs.Cuts as grammar
 use Rattle.grammar.proofs.Cuts.{Bounded}
 use Rattle.text.specs.Lines.{comma, numeral, listed, line, key-a, key-b, key-bodies, key-edges}
 use Rattle.text.specs.Sheets.{keyOf, edgeText}
-use Rattle.text.specs.Due.{Said, nothing, to-a, to-b, to-bodies, to-edges, linesOf, Written, due, Ended, bookText}
+use Rattle.text.specs.Due.{Said, nothing, to-a, to-b, to-bodies, to-edges, linesSaid, Writable, due, Ended, bookText}
 use Rattle.text.specs.Faults.{Leads, Fault, FirstFault, RefusedAt}
 use Rattle.text.proofs.Numerals.{numeral-few}
 use Rattle.text.proofs.EdgeReads.{key-of-red, key-of-black}
@@ -35,11 +35,11 @@ short = 14
 number-short : (key : List ℕ) (n : ℕ) → length key ≤ 7 → n < 1000 → length (line key (n ∷ [])) ≤ short
 number-short key n k h = omega (arith, number-line-length key n 3 (numeral-few 2 n (omega (arith, h))))
 
-key-short : (e : Edge) → Written e → length (keyOf (e .colour)) ≤ 6
+key-short : (e : Edge) → Writable e → length (keyOf (e .colour)) ≤ 6
 key-short e w =
     ⊎-elim (λ red. omega (arith, ap length (key-of-red (e .colour) red))) (λ black. omega (arith, ap length (key-of-black (e .colour) black))) (w .colour)
 
-edge-short : (e : Edge) → Written e → length (edgeText e) ≤ short
+edge-short : (e : Edge) → Writable e → length (edgeText e) ≤ short
 unfolding edgeText listed
 edge-short e w =
     omega (
@@ -80,15 +80,15 @@ leads-few : {said last : Said} {rest left : List ℕ} → Leads said rest last l
 leads-few here f = f
 leads-few {said} (one-line value next pass l) f = leads-few l (few-then said value (next .allowed) pass f)
 
-few-lines : (said : Said) → Few said → linesOf said ≤ 516
-unfolding linesOf Few
+few-lines : (said : Said) → Few said → linesSaid said ≤ 516
+unfolding linesSaid Few
 few-lines nothing f = omega arith
 few-lines (to-a a) f = omega arith
 few-lines (to-b a b) f = omega arith
 few-lines (to-bodies a b n) f = omega arith
 few-lines (to-edges a b n m es) f = omega (arith, f .0, f .1)
 
-few-come : {last : Said} {text left : List ℕ} → Leads nothing text last left → linesOf last ≤ 516
+few-come : {last : Said} {text left : List ℕ} → Leads nothing text last left → linesSaid last ≤ 516
 unfolding Few
 few-come {last} l = few-lines last (leads-few l tt)
 

@@ -14,11 +14,11 @@ use Rattle.rule.specs.Books.{Edge, ColourRange}
 use Rattle.rule.proofs.Tests.{cases}
 use Rattle.text.specs.declared.Reading.{Reading}
 use Rattle.text.specs.declared.Reading.the-variants.{Value, Nothing}
-use Rattle.text.specs.declared.EdgeLine.{EdgeLine}
-use Rattle.text.specs.declared.EdgeLine.the-variants.{Joins}
+use Rattle.text.specs.declared.EdgeRead.{EdgeRead}
+use Rattle.text.specs.declared.EdgeRead.the-variants.{Joins}
 use Rattle.text.specs.Lines.{numeral, Number, LF, comma, line, key-red, key-black}
 use Rattle.text.specs.Sheets.{keyOf, edgeText}
-use Rattle.text.specs.Due.{Written}
+use Rattle.text.specs.Due.{Writable}
 use Rattle.text.specs.Readings.{readField, beginsAt, otherEnd, oneEnd, readEnds, readKey, keyed, readEdge}
 use Rattle.text.proofs.Picks.{pick-is, pick-not, pick-eq, pick-ne}
 use Rattle.text.proofs.Fields.{past-front, field-complete, field-determined, FieldAt, field-sound}
@@ -51,7 +51,7 @@ ends-determined u v x y r q hu hv hx hy e =
     let second = field-determined 2 LF LF-ends v y r q hv hy (first .1) in
     (first .0, second .0, second .1)
 
-pub edge-determined : (e f : Edge) (r q : List ℕ) → Written e → Written f → edgeText e ++ r ≡ edgeText f ++ q → (e ≡ f) × (r ≡ q)
+pub edge-determined : (e f : Edge) (r q : List ℕ) → Writable e → Writable f → edgeText e ++ r ≡ edgeText f ++ q → (e ≡ f) × (r ≡ q)
 edge-determined e f r q we wf same =
     ⊎-elim
     (λ red.
@@ -96,7 +96,7 @@ ends-sound : (text : List ℕ) (at colour u v c next : ℕ) → readEnds text at
 unfolding readEnds oneEnd otherEnd
 ends-sound text at colour u v c next e = first (readField 3 comma text at) refl e
   where
-    refuted : {C : Type 0} → EdgeLine.Nothing ≡ Joins u v c next → C
+    refuted : {C : Type 0} → EdgeRead.Nothing ≡ Joins u v c next → C
     refuted q = let z : _≡_ {A = ℕ} 0 1 = cc in absurd (omega arith)
 
     second : (a middle : ℕ) → FieldAt 2 comma text at a middle → (r : Reading) → readField 3 LF text middle ≡ r
@@ -125,7 +125,7 @@ ends-sound text at colour u v c next e = first (readField 3 comma text at) refl 
 -- ---- what is found is there
 
 pub record EdgeAt (text : List ℕ) (at : ℕ) (e : Edge) (next : ℕ) : Type 0 where
-  pub written : Written e
+  pub written : Writable e
   pub begins : drop at text ≡ edgeText e ++ drop next text
   pub past : at < next
   pub within : next ≤ length text
@@ -161,7 +161,7 @@ edge-sound text at u v c next e =
 
 -- ---- what is there is found
 
-edge-found : (text : List ℕ) (at : ℕ) (e : Edge) (more : List ℕ) → at ≤ length text → Written e → drop at text ≡ edgeText e ++ more
+edge-found : (text : List ℕ) (at : ℕ) (e : Edge) (more : List ℕ) → at ≤ length text → Writable e → drop at text ≡ edgeText e ++ more
     → (next : ℕ) × (readEdge text at ≡ Joins (e .one) (e .other) (e .colour) next)
 unfolding readEdge readKey keyed
 edge-found text at e more l w q =
@@ -183,7 +183,7 @@ edge-found text at e more l w q =
     (w .colour)
 
 -- with the place past it
-pub edge-complete : (text : List ℕ) (at : ℕ) (e : Edge) (more : List ℕ) → at ≤ length text → Written e → drop at text ≡ edgeText e ++ more
+pub edge-complete : (text : List ℕ) (at : ℕ) (e : Edge) (more : List ℕ) → at ≤ length text → Writable e → drop at text ≡ edgeText e ++ more
     → readEdge text at ≡ Joins (e .one) (e .other) (e .colour) (at + length (edgeText e))
 edge-complete text at e more l w q =
     let f = edge-found text at e more l w q in
@@ -199,7 +199,7 @@ edge-complete text at e more l w q =
     ) in
     f .1 ∙ ap (Joins (e .one) (e .other) (e .colour)) place
 
-pub edge-none : (text : List ℕ) (at : ℕ) → at ≤ length text → readEdge text at ≡ EdgeLine.Nothing → (e : Edge) (more : List ℕ) → Written e
+pub edge-none : (text : List ℕ) (at : ℕ) → at ≤ length text → readEdge text at ≡ EdgeRead.Nothing → (e : Edge) (more : List ℕ) → Writable e
     → drop at text ≢ edgeText e ++ more
 edge-none text at l none e more w q =
     let both = sym none ∙ edge-complete text at e more l w q in

@@ -19,8 +19,8 @@ use Rattle.text.specs.declared.Reading.{Reading}
 use Rattle.text.specs.declared.Reading.the-variants.{Value, Nothing}
 use Rattle.text.specs.declared.Numbered.{Numbered}
 use Rattle.text.specs.Lines.{key-a, key-b, key-bodies, key-edges}
-use Rattle.text.specs.Due.{Said, nothing, to-a, to-b, to-bodies, to-edges, linesOf, numberLine, FirstRange, due, bookText}
-use Rattle.grammar.specs.Grammar.{Next, AtFault}
+use Rattle.text.specs.Due.{Said, nothing, to-a, to-b, to-bodies, to-edges, linesSaid, numberLine, FirstRange, due, bookText}
+use Rattle.grammar.specs.Grammar.{NextIs, AtFault}
 use Rattle.grammar.specs.Grammar.AtFault.{other, fails}
 use Rattle.grammar.proofs.Runs.{stands-on, stands-refused}
 use Rattle.grammar.proofs.Runs as runs
@@ -82,7 +82,7 @@ numbered-in : {key : List ℕ} {high : ℕ} {why : Reason} {text : List ℕ} {at
 numbered-in f = record { low = f .from; high = f .to }
 
 numbered-next : {key : List ℕ} {low high : ℕ} {why : Reason} {text : List ℕ} {at n next : ℕ} {then : ℕ → Said} {checks : ℕ → List Check}
-    → NumberedAt key low high why text at n next → Next (numberLine key then checks) (drop at text) n (drop next text)
+    → NumberedAt key low high why text at n next → NextIs (numberLine key then checks) (drop at text) n (drop next text)
 numbered-next f = record { allowed = f .there .small; begins = f .there .begins }
 
 -- ---- a place that is reached
@@ -103,7 +103,7 @@ module _ {text : List ℕ} {at : ℕ} where
 
   pub fault-a : (reason : Reason) → Stands text at nothing → readNumbered key-a 1 3 Profile text at ≡ Numbered.Refused reason
       → RefusedAt text reason 1
-  unfolding due linesOf
+  unfolding due linesSaid
   fault-a reason s e =
       stands-refused reason s (numbered-fault key-a 1 3 Profile _ _ first-within refl text at reason _ (s .within) (λ end. end) e)
 
@@ -117,7 +117,7 @@ module _ {text : List ℕ} {at : ℕ} where
 
   pub fault-b : (a : ℕ) (reason : Reason) → Stands text at (to-a a) → readNumbered key-b 1 3 Profile text at ≡ Numbered.Refused reason
       → RefusedAt text reason 2
-  unfolding due linesOf
+  unfolding due linesSaid
   fault-b a reason s e =
       stands-refused reason s (numbered-fault key-b 1 3 Profile _ _ second-within refl text at reason _ (s .within) (λ end. end) e)
 
@@ -130,7 +130,7 @@ module _ {text : List ℕ} {at : ℕ} where
 
   pub fault-bodies : (a b : ℕ) (reason : Reason) → Stands text at (to-b a b) → readNumbered key-bodies 1 64 Bodies text at ≡ Numbered.Refused reason
       → RefusedAt text reason 3
-  unfolding due linesOf
+  unfolding due linesSaid
   fault-bodies a b reason s e =
       stands-refused reason s
       (numbered-fault key-bodies 1 64 Bodies _ _ (in-within 64) refl text at reason _ (s .within) (λ end. end) e)
@@ -145,7 +145,7 @@ module _ {text : List ℕ} {at : ℕ} where
   pub fault-edges : (a b n : ℕ) (reason : Reason) → Stands text at (to-bodies a b n)
       → readNumbered key-edges 0 capacity Full text at ≡ Numbered.Refused reason
       → RefusedAt text reason 4
-  unfolding due linesOf
+  unfolding due linesSaid
   fault-edges a b n reason s e =
       stands-refused reason s
       (numbered-fault key-edges 0 capacity Full _ _ (λ v h. within-is 0 capacity v (omega arith) h) refl text at reason _ (s .within) (λ end. end) e)

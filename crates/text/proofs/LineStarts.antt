@@ -16,7 +16,7 @@ use Rattle.grammar.specs.Grammar.Leads.{here, one-line}
 use Rattle.text.specs.Lines.{pick, LF, comma, firstLine, numeral, listed, line, key-a, key-b, key-bodies, key-edges, key-red, key-black}
 use Rattle.text.specs.Words.{Digits}
 use Rattle.text.specs.Sheets.{keyOf, edgeText}
-use Rattle.text.specs.Due.{Said, nothing, to-a, to-b, to-bodies, to-edges, linesOf, due}
+use Rattle.text.specs.Due.{Said, nothing, to-a, to-b, to-bodies, to-edges, linesSaid, due}
 use Rattle.text.specs.Faults.{Leads, Fault, FirstFault}
 use Rattle.text.specs.Judgements.{LineRefused, LineBegins}
 use Rattle.text.proofs.Numerals.{numeral-digits}
@@ -86,8 +86,8 @@ due-one-line (to-edges a b n m es) e = line-one-line (keyOf (e .colour)) (e .one
 -- ---- from line to line
 
 -- one line on, where lines are left
-next-line : {said last : Said} {rest left : List ℕ} → Leads said rest last left → linesOf said < linesOf last
-    → (next : Said) × (linesOf next ≡ suc (linesOf said)) × (suc (length (firstLine rest)) ≤ length rest)
+next-line : {said last : Said} {rest left : List ℕ} → Leads said rest last left → linesSaid said < linesSaid last
+    → (next : Said) × (linesSaid next ≡ suc (linesSaid said)) × (suc (length (firstLine rest)) ≤ length rest)
     × Leads next (drop (suc (length (firstLine rest))) rest) last left
 next-line here h = absurd (omega arith)
 next-line {said} {last} {rest} {left} (one-line {more = more} value next pass l) h =
@@ -102,11 +102,11 @@ next-line {said} {last} {rest} {left} (one-line {more = more} value next pass l)
       subst (λ (s : List ℕ). Leads (due said .then value) s last left) (sym past) l,
     )
 
-leads-lines : {said last : Said} {rest left : List ℕ} → Leads said rest last left → linesOf said ≤ linesOf last
+leads-lines : {said last : Said} {rest left : List ℕ} → Leads said rest last left → linesSaid said ≤ linesSaid last
 leads-lines here = omega arith
 leads-lines {said} (one-line value next pass l) = omega (arith, leads-lines l, line-counted said value)
 
-no-line-left : {said last : Said} {rest left : List ℕ} → Leads said rest last left → linesOf last ≤ linesOf said → rest ≡ left
+no-line-left : {said last : Said} {rest left : List ℕ} → Leads said rest last left → linesSaid last ≤ linesSaid said → rest ≡ left
 no-line-left here h = refl
 no-line-left {said} (one-line value next pass l) h = absurd (omega (arith, leads-lines l, line-counted said value))
 
@@ -117,12 +117,12 @@ pub record Reached (text : List ℕ) (line at i : ℕ) : Type 0 where
   pub first : FirstFault text fault
   pub number : line ≡ fault .line
   pub said : Said
-  pub counts : i ≡ suc (linesOf said)
+  pub counts : i ≡ suc (linesSaid said)
   pub within : at ≤ length text
   pub leads : Leads said (drop at text) (first .said) (drop (fault .start) text)
 
 pub reached-first : {text : List ℕ} {line : ℕ} → LineRefused text line → Reached text line 0 1
-unfolding linesOf
+unfolding linesSaid
 reached-first (f, first, number) =
     record { fault = f; first = first; number = number; said = nothing; counts = refl; within = omega arith; leads = first .before }
 

@@ -14,7 +14,7 @@ use Rattle.text.specs.Lines.{line, key-a, key-b, key-bodies, key-edges}
 use Rattle.text.specs.Sheets.{Sheet, EdgesRange, SheetRange, edgeText, edgesText, headText, textOf}
 use Rattle.text.specs.Due.{Said, nothing, to-a, to-b, to-bodies, to-edges, FirstRange, due, Ended}
 use Rattle.text.proofs.Ranges.{first-small, second-small, profile-first}
-use Rattle.grammar.specs.Grammar.{Next}
+use Rattle.grammar.specs.Grammar.{NextIs}
 use Rattle.grammar.specs.Grammar.Leads.{here, one-line}
 use Rattle.grammar.proofs.Runs.{leads-trans}
 use Rattle.text.specs.Faults.{Leads}
@@ -45,7 +45,7 @@ saidText (to-b a b) = line key-a (a ∷ []) ++ line key-b (b ∷ [])
 saidText (to-bodies a b n) = line key-a (a ∷ []) ++ (line key-b (b ∷ []) ++ line key-bodies (n ∷ []))
 saidText (to-edges a b n m es) = headText a b n m ++ edgesText es
 
-said-text : (said : Said) (rest : List ℕ) (value : due said .Value) (more : List ℕ) → Next (due said) rest value more
+said-text : (said : Said) (rest : List ℕ) (value : due said .Value) (more : List ℕ) → NextIs (due said) rest value more
     → saidText said ++ rest ≡ saidText (due said .then value) ++ more
 unfolding saidText due headText edgesText
 said-text nothing rest a more h = h .begins
@@ -64,7 +64,7 @@ SaidRange (to-b a b) = ProfileRange a b
 SaidRange (to-bodies a b n) = ProfileRange a b × BodiesRange n
 SaidRange (to-edges a b n m es) = ProfileRange a b × BodiesRange n × (m ≤ capacity) × EdgesRange n es
 
-said-range : (said : Said) (rest : List ℕ) (value : due said .Value) (more : List ℕ) → Next (due said) rest value more
+said-range : (said : Said) (rest : List ℕ) (value : due said .Value) (more : List ℕ) → NextIs (due said) rest value more
     → Pass (due said .checks value) → SaidRange said → SaidRange (due said .then value)
 unfolding SaidRange due
 said-range nothing rest a more h p r = p .0

@@ -17,12 +17,12 @@ use Rattle.rule.proofs.Tests.{by-le, by-eq}
 use Rattle.rule.proofs.Determined.{Single, nothing-single}
 use Rattle.text.specs.declared.Reading.{Reading}
 use Rattle.text.specs.declared.Reading.the-variants.{Value, Nothing}
-use Rattle.text.specs.declared.EdgeLine.{EdgeLine}
-use Rattle.text.specs.declared.EdgeLine.the-variants.{Joins}
-use Rattle.grammar.specs.Grammar.{Next}
+use Rattle.text.specs.declared.EdgeRead.{EdgeRead}
+use Rattle.text.specs.declared.EdgeRead.the-variants.{Joins}
+use Rattle.grammar.specs.Grammar.{NextIs}
 use Rattle.grammar.proofs.Outcomes.{LineAt, is-due, is-other, Determined, PassOrFail, passes, fail, Lawful}
 use Rattle.text.specs.Lines.{key-a, key-b, key-bodies, key-edges}
-use Rattle.text.specs.Due.{Said, nothing, to-a, to-b, to-bodies, to-edges, linesOf, numberLine, edgeLine, due, Ended, bookText}
+use Rattle.text.specs.Due.{Said, nothing, to-a, to-b, to-bodies, to-edges, linesSaid, numberLine, edgeLine, due, Ended, bookText}
 use Rattle.text.specs.Readings.{readNumberLine, readEdge}
 use Rattle.text.proofs.Ranges.{le-dec, in-dec, both-dec, first-dec, profile-dec}
 use Rattle.text.proofs.LineReads.{number-line-determined, number-line-sound, number-line-none}
@@ -48,8 +48,8 @@ module _ (a b n m : ℕ) (before : List Edge) where
   edge-decided text at l =
       by-le m (length before) (λ all. is-other (λ e more h. absurd (omega (arith, h .allowed .0)))) (λ some. go some (readEdge text at) refl)
     where
-      go : length before < m → (r : EdgeLine) → readEdge text at ≡ r → LineAt (edgeLine a b n m before) text at
-      go some EdgeLine.Nothing e = is-other (λ x more h. edge-none text at l e x more (h .allowed .1) (h .begins))
+      go : length before < m → (r : EdgeRead) → readEdge text at ≡ r → LineAt (edgeLine a b n m before) text at
+      go some EdgeRead.Nothing e = is-other (λ x more h. edge-none text at l e x more (h .allowed .1) (h .begins))
       go some (Joins u v c place) e =
           let f = edge-sound text at u v c place e in
           let edge : Edge = record { one = u; other = v; colour = c } in
@@ -77,8 +77,8 @@ line-determined (to-bodies a b n) = number-determined key-edges _ _
 line-determined (to-edges a b n m before) = edge-line-determined a b n m before
 
 -- it is one line more
-pub line-counted : (said : Said) (value : due said .Value) → linesOf (due said .then value) ≡ suc (linesOf said)
-unfolding linesOf due
+pub line-counted : (said : Said) (value : due said .Value) → linesSaid (due said .then value) ≡ suc (linesSaid said)
+unfolding linesSaid due
 line-counted nothing a = refl
 line-counted (to-a a) b = refl
 line-counted (to-b a b) n = refl
@@ -126,7 +126,7 @@ ended-dec (to-edges a b n m es) [] = by-eq (length es) m (λ h. yes (h, refl)) (
 ended-dec (to-edges a b n m es) (x ∷ rest) = no (λ e. let z = ap length (e .1) in absurd (omega arith))
 
 -- when all lines have come none is allowed
-ended-none : (said : Said) (rest : List ℕ) → Ended said rest → (value : due said .Value) (more : List ℕ) → ¬ Next (due said) rest value more
+ended-none : (said : Said) (rest : List ℕ) → Ended said rest → (value : due said .Value) (more : List ℕ) → ¬ NextIs (due said) rest value more
 unfolding due
 ended-none nothing rest e value more next = e
 ended-none (to-a a) rest e value more next = e

@@ -16,18 +16,18 @@ use Rattle.rule.specs.Sets.{In}
 use Rattle.rule.specs.Books.{capacity}
 use Rattle.rule.specs.Reasons.{Fail}
 use Rattle.rule.proofs.Tests.{cases, by-eq}
-use Rattle.text.specs.declared.EdgeLine.{EdgeLine}
-use Rattle.text.specs.declared.EdgeLine.the-variants.{Joins}
+use Rattle.text.specs.declared.EdgeRead.{EdgeRead}
+use Rattle.text.specs.declared.EdgeRead.the-variants.{Joins}
 use Rattle.text.specs.declared.Judgement.{Judgement}
 use Rattle.text.specs.declared.Step.{Step}
 use Rattle.text.specs.declared.Step.the-variants.{On}
-use Rattle.text.specs.Due.{to-edges, linesOf, edgeLine, due}
+use Rattle.text.specs.Due.{to-edges, linesSaid, edgeLine, due}
 use Rattle.grammar.specs.Grammar.{AtFault}
 use Rattle.grammar.specs.Grammar.AtFault.{other, fails}
 use Rattle.grammar.proofs.Runs.{stands-on, stands-refused}
 use Rattle.text.specs.Faults.{Faulty, RefusedAt}
 use Rattle.text.specs.Readings.{readEdge}
-use Rattle.text.specs.Judging.{within, joined, readStep}
+use Rattle.text.specs.Judging.{within, stepOf, readStep}
 use Rattle.text.specs.EdgeLists.{EdgeLists, Roomy, EdgeEntered, EdgesEntered}
 use Rattle.text.specs.Judgements.{IsHead, Enters}
 use Rattle.text.proofs.Picks.{pick-is, pick-not, pick-eq, pick-ne}
@@ -49,8 +49,8 @@ data Ends (n : ℕ) (e : Edge) (next : ℕ) : Step → Type 0 where
   body : ¬ (In n (e .one) × In n (e .other)) → Ends n e next (Step.Refused Body)
   same : In n (e .one) × In n (e .other) → e .one ≡ e .other → Ends n e next (Step.Refused SameBody)
 
-ends-checked : (n : ℕ) (e : Edge) (next : ℕ) → Ends n e next (joined n (Joins (e .one) (e .other) (e .colour) next))
-unfolding joined
+ends-checked : (n : ℕ) (e : Edge) (next : ℕ) → Ends n e next (stepOf n (Joins (e .one) (e .other) (e .colour) next))
+unfolding stepOf
 ends-checked n e next =
     by-eq (e .one) (e .other)
     (λ q.
@@ -73,7 +73,7 @@ ends-checked n e next =
 module _ (text : List ℕ) (at n : ℕ) where
   step-on : (u v c next : ℕ) → readStep n text at ≡ On u v c next
       → let e : Edge = record { one = u; other = v; colour = c } in EdgeAt text at e next × EdgeRange n e
-  unfolding readStep joined
+  unfolding readStep stepOf
   step-on u v c next h = read (readEdge text at) refl h
     where
       given : Edge
@@ -93,15 +93,15 @@ module _ (text : List ℕ) (at n : ℕ) where
       checked e place f x (body none) q = let z : _≡_ {A = ℕ} 0 1 = cc in absurd (omega arith)
       checked e place f x (same both differ) q = let z : _≡_ {A = ℕ} 0 1 = cc in absurd (omega arith)
 
-      read : (r : EdgeLine) → readEdge text at ≡ r → joined n r ≡ On u v c next → EdgeAt text at given next × EdgeRange n given
-      read EdgeLine.Nothing e q = let z : _≡_ {A = ℕ} 0 1 = cc in absurd (omega arith)
+      read : (r : EdgeRead) → readEdge text at ≡ r → stepOf n r ≡ On u v c next → EdgeAt text at given next × EdgeRange n given
+      read EdgeRead.Nothing e q = let z : _≡_ {A = ℕ} 0 1 = cc in absurd (omega arith)
       read (Joins x y z place) e q =
           let edge : Edge = record { one = x; other = y; colour = z } in
           checked edge place (edge-sound text at x y z place e) _ (ends-checked n edge place) q
 
   step-refused : (a b m : ℕ) (before : List Edge) (ended : Type 0) (reason : Reason) → at ≤ length text → length before < m → ¬ ended
       → readStep n text at ≡ Step.Refused reason → AtFault (edgeLine a b n m before) ended (drop at text) reason
-  unfolding readStep joined
+  unfolding readStep stepOf
   step-refused a b m before ended reason l some going h = read (readEdge text at) refl h
     where
       fault : (why : Reason) (e : Edge) (place : ℕ) → EdgeAt text at e place → Step.Refused why ≡ Step.Refused reason
@@ -117,8 +117,8 @@ module _ (text : List ℕ) (at n : ℕ) where
       checked e place f x (body none) q = fault Body e place f q (inl (none, refl, refl))
       checked e place f x (same both equal) q = fault SameBody e place f q (inr (both, inl ((λ d. d equal), refl, refl)))
 
-      read : (r : EdgeLine) → readEdge text at ≡ r → joined n r ≡ Step.Refused reason → AtFault (edgeLine a b n m before) ended (drop at text) reason
-      read EdgeLine.Nothing e q =
+      read : (r : EdgeRead) → readEdge text at ≡ r → stepOf n r ≡ Step.Refused reason → AtFault (edgeLine a b n m before) ended (drop at text) reason
+      read EdgeRead.Nothing e q =
           let is : Line ≡ reason = cc in
           subst (AtFault (edgeLine a b n m before) ended (drop at text)) is
           (other (λ x more next. edge-none text at l e x more (next .allowed .1) (next .begins)) going)
@@ -183,7 +183,7 @@ module _ {text : List ℕ} {a b n m : ℕ} {before : EdgeLists} where
     -- the number of the line that is due
     walked-line : (w : Walked text a b n m before at i after) (reason : Reason) → Faulty (to-edges a b n m (w .edges)) (drop at text) reason
         → RefusedAt text reason (i + 5)
-    unfolding linesOf
+    unfolding linesSaid
     walked-line w reason bad =
         subst (RefusedAt text reason) (omega (arith, w .count)) (stands-refused reason (w .stands) bad)
 

@@ -23,12 +23,12 @@ pub data Said : Type 0 where
   to-edges : (a b n m : ℕ) → List Edge → Said
 
 -- how many lines that is
-unfoldable pub linesOf : Said → ℕ
-linesOf nothing = 0
-linesOf (to-a a) = 1
-linesOf (to-b a b) = 2
-linesOf (to-bodies a b n) = 3
-linesOf (to-edges a b n m edges) = 4 + length edges
+unfoldable pub linesSaid : Said → ℕ
+linesSaid nothing = 0
+linesSaid (to-a a) = 1
+linesSaid (to-b a b) = 2
+linesSaid (to-bodies a b n) = 3
+linesSaid (to-edges a b n m edges) = 4 + length edges
 
 -- a key and one number
 abbrev pub numberLine : List ℕ → (ℕ → Said) → (ℕ → List Check) → DueLine Said
@@ -40,14 +40,14 @@ abbrev pub FirstRange : ℕ → Type 0
 FirstRange a = In 3 a
 
 -- an edge line: its bodies are numbers of a text, its colour is red or black
-pub record Written (e : Edge) : Type 0 where
+pub record Writable (e : Edge) : Type 0 where
   pub one : Number (e .one)
   pub other : Number (e .other)
   pub colour : ColourRange (e .colour)
 
 -- it is allowed while fewer than m have come
 abbrev pub EdgeAllowed : ℕ → List Edge → Edge → Type 0
-EdgeAllowed m before e = (length before < m) × Written e
+EdgeAllowed m before e = (length before < m) × Writable e
 
 -- an edge line, after those before it: 3 comes before 4
 abbrev pub edgeLine : (a b n m : ℕ) → List Edge → DueLine Said
@@ -77,4 +77,4 @@ Ended (to-bodies a b n) rest = ⊥
 Ended (to-edges a b n m edges) rest = (length edges ≡ m) × (rest ≡ [])
 
 abbrev pub bookText : Grammar
-bookText = record { Said = Said; nothing = nothing; lines = linesOf; due = due; Ended = Ended }
+bookText = record { Said = Said; nothing = nothing; lines = linesSaid; due = due; Ended = Ended }

@@ -9,8 +9,8 @@ use lib.ListN.{length, getD, drop}
 use Rattle.rule.specs.Sets.{_and_, _=?_, _<?_}
 use Rattle.text.specs.declared.Reading.{Reading}
 use Rattle.text.specs.declared.Reading.the-variants.{Value, Nothing}
-use Rattle.text.specs.declared.EdgeLine.{EdgeLine}
-use Rattle.text.specs.declared.EdgeLine.the-variants.{Joins}
+use Rattle.text.specs.declared.EdgeRead.{EdgeRead}
+use Rattle.text.specs.declared.EdgeRead.the-variants.{Joins}
 use Rattle.text.specs.declared.Key.{Key}
 use Rattle.text.specs.declared.Key.the-variants.{Opens}
 use Rattle.text.specs.Lines.{pick, digit, LF, comma, key-red, key-black}
@@ -58,25 +58,25 @@ readNumberLine key text at = pick (beginsAt key text at) (readField 3 LF text (a
 
 -- ---- an edge line
 
-unfoldable pub otherEnd : (one colour : ℕ) → Reading → EdgeLine
+unfoldable pub otherEnd : (one colour : ℕ) → Reading → EdgeRead
 otherEnd one colour (Value other next) = Joins one other colour next
-otherEnd one colour Nothing = EdgeLine.Nothing
+otherEnd one colour Nothing = EdgeRead.Nothing
 
-unfoldable pub oneEnd : List ℕ → ℕ → Reading → EdgeLine
+unfoldable pub oneEnd : List ℕ → ℕ → Reading → EdgeRead
 oneEnd text colour (Value one middle) = otherEnd one colour (readField 3 LF text middle)
-oneEnd text colour Nothing = EdgeLine.Nothing
+oneEnd text colour Nothing = EdgeRead.Nothing
 
 -- the two numbers of an edge line, past its key
-unfoldable pub readEnds : List ℕ → (at colour : ℕ) → EdgeLine
+unfoldable pub readEnds : List ℕ → (at colour : ℕ) → EdgeRead
 readEnds text at colour = oneEnd text colour (readField 3 comma text at)
 
 -- the colour whose key stands there, and the place past it
 unfoldable pub readKey : List ℕ → ℕ → Key
 readKey text at = pick (beginsAt key-red text at) (Opens 1 (at + 4)) (pick (beginsAt key-black text at) (Opens 2 (at + 6)) Key.Nothing)
 
-unfoldable pub keyed : List ℕ → Key → EdgeLine
+unfoldable pub keyed : List ℕ → Key → EdgeRead
 keyed text (Opens colour past) = readEnds text past colour
-keyed text Key.Nothing = EdgeLine.Nothing
+keyed text Key.Nothing = EdgeRead.Nothing
 
-unfoldable pub readEdge : List ℕ → ℕ → EdgeLine
+unfoldable pub readEdge : List ℕ → ℕ → EdgeRead
 readEdge text at = keyed text (readKey text at)

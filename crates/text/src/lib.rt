@@ -18,7 +18,7 @@ pub enum Reading {
 }
 
 // What reading an edge line finds: its two bodies, its colour (1 red, 2 black) and the place past its LF.
-pub enum EdgeLine {
+pub enum EdgeRead {
     Joins {
         one: usize,
         other: usize,
@@ -163,18 +163,18 @@ fn number_line(text: &[u8], at: usize, key: &[u8]) -> Reading
 }
 
 // The two numbers of an edge line, past its key.
-fn ends(text: &[u8], at: usize, colour: u8) -> EdgeLine
+fn ends(text: &[u8], at: usize, colour: u8) -> EdgeRead
     ensures { λ r. ⌜ r ≡ readEnds (now (text .entry)) at colour ⌝ }
 {
     let first = field(text, at, b',', 3);
     let Reading::Value(one, middle) = first else {
-        return EdgeLine::Nothing;
+        return EdgeRead::Nothing;
     };
     let second = field(text, middle, b'\n', 3);
     let Reading::Value(other, next) = second else {
-        return EdgeLine::Nothing;
+        return EdgeRead::Nothing;
     };
-    EdgeLine::Joins {
+    EdgeRead::Joins {
         one,
         other,
         colour,
@@ -196,13 +196,13 @@ fn key_at(text: &[u8], at: usize) -> Key
 }
 
 // The edge line at a place of a text.
-fn edge_at(text: &[u8], at: usize) -> EdgeLine
+fn edge_at(text: &[u8], at: usize) -> EdgeRead
     ensures { λ r. ⌜ r ≡ readEdge (now (text .entry)) at ⌝ }
 {
     let key = key_at(text, at);
     match key {
         Key::Opens(colour, past) => ends(text, past, colour),
-        Key::Nothing => EdgeLine::Nothing,
+        Key::Nothing => EdgeRead::Nothing,
     }
 }
 
@@ -237,7 +237,7 @@ fn edge_in(text: &[u8], at: usize, n: usize) -> Step
     ensures { λ r. ⌜ r ≡ readStep n (now (text .entry)) at ⌝ }
 {
     let e = edge_at(text, at);
-    let EdgeLine::Joins {
+    let EdgeRead::Joins {
         one,
         other,
         colour,

@@ -149,7 +149,7 @@ maximal-same-size = Formula.maximal-same-size
 
 -- ---- 7. The rank formula
 
--- the number kept of a grown design is the least, over all choices s of its edges, of the edges outside s plus a·r(s) plus b·s(s)
+-- the number kept of a grown design is the least, over all choices x of its edges, of the edges outside x plus a·r(x) plus b·r of the black ones of x
 pub rank-formula : (d : Design) → Ends d → (kept : Set) → Grown d kept → Least d (λ _. true) (count kept (d .m))
 rank-formula = Growing.grown-formula
 

@@ -56,14 +56,14 @@ reach d forest place x i w =
       seen = λ y. w .seen y or onPath d (inForest forest i) x y;
     }
 
-abbrev pub pick : Bool → Result → Result → Result
-pick true a b = a
-pick false a b = b
+abbrev pub pickResult : Bool → Result → Result → Result
+pickResult true a b = a
+pickResult false a b = b
 
 -- the edge x, waiting at a place, tries forest i
 unfoldable pub tryForest : Design → (ℕ → ℕ) → (place x i : ℕ) → Waiting → Result
 tryForest d forest place x i w =
-    pick (forest x =? i) (going w) (pick (spans d (inForest forest i) x) (going (reach d forest place x i w)) (found place i w))
+    pickResult (forest x =? i) (going w) (pickResult (spans d (inForest forest i) x) (going (reach d forest place x i w)) (found place i w))
 
 -- it tries the forests 1 to j
 unfoldable pub tryForests : Design → (ℕ → ℕ) → (place x j : ℕ) → Waiting → Result
@@ -73,7 +73,7 @@ tryForests d forest place x (suc j) w = andThen (tryForests d forest place x j w
 -- the turn of a place: nothing where no edge waits there
 unfoldable pub turn : Design → (ℕ → ℕ) → (place : ℕ) → Waiting → Result
 turn d forest place w =
-    pick (place <? length (w .queue)) (tryForests d forest place (edgeAt w place) (limit d (edgeAt w place)) w) (going w)
+    pickResult (place <? length (w .queue)) (tryForests d forest place (edgeAt w place) (limit d (edgeAt w place)) w) (going w)
 
 -- the turns of the first places
 unfoldable pub turns : Design → (ℕ → ℕ) → (e places : ℕ) → Result

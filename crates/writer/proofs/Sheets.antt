@@ -16,7 +16,7 @@ use Rattle.text.specs.Sheets.{EdgesRange, SheetRange, edgeText, edgesText, head
 use Rattle.text.proofs.SheetRuns.{edges-text-append}
 use Rattle.text.proofs.Sizes.{sheet-size}
 use Rattle.reports.specs.Reads.{edgesOf, sheetOf}
-use Rattle.reports.specs.Reports.{bookLine, bookText}
+use Rattle.reports.specs.Reports.{bookLine, bookLines}
 use Rattle.lines.proofs.Rounds.{Pieces}
 
 -- ---- the edges as a list
@@ -80,10 +80,10 @@ lines-parts B (suc m) =
     ∙ ap (λ (s : List ℕ). head ++ s) (sym (edges-text-more B m))
 
 -- The text of a book is its lines, one behind the other.
-pub text-lines : (B : Book) → firstLines B (bookText B .number) ≡ textOf (sheetOf B)
+pub text-lines : (B : Book) → firstLines B (bookLines B .number) ≡ textOf (sheetOf B)
 unfolding textOf sheetOf
 text-lines B =
-    let same : bookText B .number ≡ suc (suc (suc (suc (B .count)))) = omega arith in
+    let same : bookLines B .number ≡ suc (suc (suc (suc (B .count)))) = omega arith in
     ap (firstLines B) same
     ∙ lines-parts B (B .count)
     ∙ ap (λ (m : ℕ). headText (B .a) (B .b) (B .n) m ++ edgesText (edgesOf B (B .count))) (sym (edges-number B (B .count)))
@@ -95,5 +95,5 @@ pub sound-text-size : (B : Book) → Sound B → length (textOf (sheetOf B)) ≤
 sound-text-size B sound = sheet-size (sheetOf B) (sound-sheet-range B sound)
 
 -- written from the front on, its lines fit
-pub lines-room : (B : Book) → Sound B → (places : ℕ) → textRoom ≤ places → 0 + length (firstLines B (bookText B .number)) ≤ places
+pub lines-room : (B : Book) → Sound B → (places : ℕ) → textRoom ≤ places → 0 + length (firstLines B (bookLines B .number)) ≤ places
 lines-room B sound places room = omega (arith, ap length (text-lines B), sound-text-size B sound)

@@ -2,7 +2,7 @@
 use borrow.Author.Needs.{needs}
 use Prim.Native.Nat.{_-_}
 use Rattle.rule.specs.declared.Book.{Book}
-use Rattle.book.specs.Scan.{bookOf}
+use Rattle.book.specs.Scan.{scannedBook}
 use Rattle.book.proofs.Said.{refused, granted}
 use Rattle.book.proofs.Scanning.{FineAt, Scanning, scanning-none, scanned-all, not-fine, plantable, stops, scanning-more}
 use Rattle.book.proofs.scan.Statement.{statement}
@@ -10,7 +10,7 @@ use Rattle.book.proofs.scan.Tie as tie
 
 abbrev Inv-scan : tie.InvT-scan
 Inv-scan a b n count ones others colours forests root₀ way₀ who₀ edge₀ size₀ e₀ root way who edge size e =
-    Scanning (bookOf a b n count ones others colours forests) e root way who edge size
+    Scanning (scannedBook a b n count ones others colours forests) e root way who edge size
 
 abbrev μ-scan : tie.MeasureT-scan
 μ-scan a b n count ones others colours forests root₀ way₀ who₀ edge₀ size₀ e₀ root way who edge size e =
@@ -18,7 +18,7 @@ abbrev μ-scan : tie.MeasureT-scan
 
 abbrev book : tie.Start Inv-scan μ-scan → Book
 book s =
-    bookOf (s .args .a) (s .args .b) (s .args .n) (s .args .count) (s .args .ones .now) (s .args .others .now) (s .args .colours .now)
+    scannedBook (s .args .a) (s .args .b) (s .args .n) (s .args .count) (s .args .ones .now) (s .args .others .now) (s .args .colours .now)
     (s .args .forests .now)
 
 begin-requires : tie.Need-begin-requires Inv-scan μ-scan

@@ -5,14 +5,14 @@ use Prim.Native.Nat.{ℕ, _-_, _≤_, _<_}
 use native.Mathlib.Omega.{arith}
 use lib.ListN.{length}
 use Rattle.rule.specs.Sets.{numbers}
-use Rattle.search.specs.Marks.{Written}
+use Rattle.search.specs.Marks.{MarksWritten}
 use Rattle.book.proofs.Figures.{placed}
 use Rattle.circuits.proofs.Counted.{has-forest, has-none, none-listed, as-long, next-out, room-for-next, next-in}
 use Rattle.circuits.proofs.all_kept.Statement.{statement}
 use Rattle.circuits.proofs.all_kept.Tie as tie
 
 abbrev Inv-loop : tie.InvT-loop
-Inv-loop count forests list₀ n₀ e₀ list n e = (e ≤ count) × Written list₀ 0 (numbers (placed forests) e) list n
+Inv-loop count forests list₀ n₀ e₀ list n e = (e ≤ count) × MarksWritten list₀ 0 (numbers (placed forests) e) list n
 
 abbrev μ-loop : tie.MeasureT-loop
 μ-loop count forests list₀ n₀ e₀ list n e = count - e
@@ -64,7 +64,7 @@ returns : tie.Need-returns Inv-loop μ-loop
 returns c =
     let loop = c .before in
     let start = loop .before in
-    subst (λ (z : ℕ). Written (start .args .list .now) 0 (numbers (placed (start .args .forests .now)) z) (loop .loop .list) (loop .loop .n)) (omega arith) (loop .loop .inv .1)
+    subst (λ (z : ℕ). MarksWritten (start .args .list .now) 0 (numbers (placed (start .args .forests .now)) z) (loop .loop .list) (loop .loop .n)) (omega arith) (loop .loop .inv .1)
 
 pub all-kept-spec : {M : Type 1} → statement M
 all-kept-spec =

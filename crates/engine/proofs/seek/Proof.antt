@@ -9,11 +9,11 @@ use Rattle.rule.specs.declared.Book.{Book}
 use Rattle.rule.specs.Books.{theEdge, offered, next}
 use Rattle.theory.specs.Search.{search as searching}
 use Rattle.theory.proofs.Legal.Sound.{sound-head}
-use Rattle.reaching.specs.Setting.{Holds}
+use Rattle.reaching.specs.Setting.{HoldsWaiting}
 use Rattle.search.specs.declared.Outcome.{Outcome}
 use Rattle.search.specs.declared.Outcome.the-variants.{Found, Stuck}
 use Rattle.search.specs.Answers.{Answers}
-use Rattle.engine.specs.Seek.{bookOf, forestsFor, Seekable, Ends, Fails}
+use Rattle.engine.specs.Seek.{bookOf, forestsFor, Seekable, EndsIn, Fails}
 use Rattle.engine.proofs.Seeking.{sought, searched, led, small-forest, ends-there, waits, fails-there}
 use Rattle.engine.proofs.seek.Statement.{statement}
 use Rattle.engine.proofs.seek.Tie as tie
@@ -46,7 +46,7 @@ from-of c = c .search .last .1 .1 .1 .1 .1 .1 .1 .1 .1 .1 .1 .1 .1 .1 .0
 abbrev Come : tie.After-search → Outcome → Type 0
 Come c o =
     let start = start-of c in
-    Answers (λ w. Holds w (queue-of c) (from-of c))
+    Answers (λ w. HoldsWaiting w (queue-of c) (from-of c))
     (searching (offered (book start) (theEdge (start .args .u) (start .args .v) (start .args .colour))) (forestsFor (book start)) (next (book start))) o
 
 after-search : (c : tie.After-search) (s : Task (start-of c))
@@ -85,7 +85,7 @@ abbrev path-of : tie.After-trail → List ℕ
 path-of c = c .trail .last .1 .1 .1 .0
 
 ends : (c : tie.After-trail) → let told = c .before .before .before .before in let start = start-of (found-at told) in Task start
-    → Ends (book start) (theEdge (start .args .u) (start .args .v) (start .args .colour)) (path-of c) (c .trail .result) (told .before .r .given .0 .1 .0)
+    → EndsIn (book start) (theEdge (start .args .u) (start .args .v) (start .args .colour)) (path-of c) (c .trail .result) (told .before .r .given .0 .1 .0)
     × (length (path-of c) ≡ 379)
 ends c s =
     let told = c .before .before .before .before in

@@ -26,9 +26,13 @@ Task c =
 seek-requires : tie.Need-seek-requires
 seek-requires c κs =
     let start = c .before .before .before .before .before .before .before .before .before .before .before .before in
-    let t = start .pre .3 in
-    (start .pre .0, start .pre .1, start .pre .2, passed-offer (book start) (theEdge (start .args .u) (start .args .v) (start .args .colour)) (start .args .list .now) (t .checked) .asked .room,
-    seekable (book start) (theEdge (start .args .u) (start .args .v) (start .args .colour)) t)
+    let t = start .pre .3 in (
+      start .pre .0,
+      start .pre .1,
+      start .pre .2,
+      passed-offer (book start) (theEdge (start .args .u) (start .args .v) (start .args .colour)) (start .args .list .now) (t .checked) .asked .room,
+      seekable (book start) (theEdge (start .args .u) (start .args .v) (start .args .colour)) t,
+    )
 
 -- after the search
 abbrev start-of : tie.After-seek → tie.Start

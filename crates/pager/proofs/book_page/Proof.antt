@@ -7,7 +7,7 @@ use lib.ListN.{length}
 use Rattle.rule.specs.Books.{Sound}
 use Rattle.rule.specs.Reasons.{Pass, bookChecks}
 use Rattle.reports.specs.Steps.{lineRoom}
-use Rattle.book.specs.Checks.{Holds}
+use Rattle.book.specs.Checks.{HoldsForests}
 use Rattle.pager.specs.Kinds.{formOf}
 use Rattle.book.proofs.Checks.{passed}
 use Rattle.pager.proofs.Answers.{readable, short-refused, book-refused, book-over, book-lines}
@@ -31,7 +31,7 @@ abbrev asked-of : tie.After-enum-told → tie.After-sound
 asked-of c = c .before .before
 
 abbrev Held : tie.After-sound → Type 0
-Held c = let last = c .sound .last .1 in Holds (start-of c .args .state .book) (last .0) (last .1 .0) (last .1 .1 .0) (last .1 .1 .1 .0) (last .1 .1 .1 .1 .0)
+Held c = let last = c .sound .last .1 in HoldsForests (start-of c .args .state .book) (last .0) (last .1 .0) (last .1 .1 .0) (last .1 .1 .1 .0) (last .1 .1 .1 .1 .0)
 
 fine : (c : tie.After-enum-told) → Pass (bookChecks (start-of (asked-of c) .args .state .book)) × Held (asked-of c)
 fine c =

@@ -8,14 +8,14 @@ use mathlib.Core.List.{_++_}
 use Prim.Native.Nat.{ℕ, _+_, _-_, _≤_, _<_}
 use lib.ListN.{length, take, drop}
 use Rattle.pager.specs.Kinds.{formOf}
-use Rattle.pager.specs.Lent.{Run, Tally}
+use Rattle.pager.specs.Lent.{LinesRun, Tally}
 use Rattle.pager.proofs.Runs.{rest-length, run-none, run-more, tally-next}
 use Rattle.pager.proofs.fill.Statement.{statement}
 use Rattle.pager.proofs.fill.Tie as tie
 
 abbrev Inv-loop : tie.InvT-loop
 Inv-loop kind book first root way edge buffer₀ number kept₀ i₀ end₀ buffer kept i end =
-    Run (formOf kind) book first buffer₀ buffer i end × Tally book i kept
+    LinesRun (formOf kind) book first buffer₀ buffer i end × Tally book i kept
 
 abbrev μ-loop : tie.MeasureT-loop
 μ-loop kind book first root way edge buffer₀ number kept₀ i₀ end₀ buffer kept i end = number - i
@@ -58,7 +58,7 @@ line-requires c κs =
 -- and it is written
 wrote : (c : tie.After-line Inv-loop μ-loop) → let start = c .before .before .before .before .before .before .before .before in
     let loop = c .before .before .before .before .loop in
-    Run (formOf (start .args .kind)) (start .args .book) (start .args .first) (start .args .buffer .now)
+    LinesRun (formOf (start .args .kind)) (start .args .book) (start .args .first) (start .args .buffer .now)
     (take (loop .end) (loop .buffer) ++ (c .line .last .1 .1 .1 .1 .1 .1 .1 .0 ++ drop (length (loop .buffer) - loop .end) (drop (loop .end) (loop .buffer)))) (loop .i + 1)
     (loop .end + c .line .result)
 wrote c =

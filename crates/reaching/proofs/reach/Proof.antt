@@ -4,7 +4,7 @@ use mathlib.Core.Path.{_≡_, _∙_}
 use Prim.Native.Nat.{_≤_, _<_}
 use native.Mathlib.Omega.{arith}
 use lib.ListN.{length}
-use Rattle.reaching.specs.Words.{standing, Coming}
+use Rattle.reaching.specs.Words.{standingAt, Coming}
 use Rattle.reaching.proofs.Laid.{laid-length}
 use Rattle.reaching.proofs.Coming.{Reaching, reaching-begins, reaching-room, reaching-next, reaching-ends}
 use Rattle.reaching.proofs.reach.Statement.{statement}
@@ -12,14 +12,14 @@ use Rattle.reaching.proofs.reach.Tie as tie
 
 abbrev Inv-loop : tie.InvT-loop
 Inv-loop base word edge queue₀ from₀ size place left₀ n₀ queue from left n =
-    (t : Coming (standing edge base) word size 379) → Reaching (standing edge base) (t .edges) (t .most) size place queue₀ from₀ queue from left n
+    (t : Coming (standingAt edge base) word size 379) → Reaching (standingAt edge base) (t .edges) (t .most) size place queue₀ from₀ queue from left n
 
 abbrev μ-loop : tie.MeasureT-loop
 μ-loop base word edge queue₀ from₀ size place left₀ n₀ queue from left n = left
 
 loop-holds : tie.Need-loop-holds Inv-loop μ-loop
 loop-holds c t =
-    reaching-begins (standing (c .args .edge .now) (c .args .base)) (t .edges) (t .most) (c .args .size) (c .args .place) (c .args .word) (c .args .queue .now)
+    reaching-begins (standingAt (c .args .edge .now) (c .args .base)) (t .edges) (t .most) (c .args .size) (c .args .place) (c .args .word) (c .args .queue .now)
     (c .args .from .now) (t .carried) (t .room) (c .pre .1) (c .pre .2)
 
 -- the turn of a bit: what is known of the edges passed, and that there is room for one more

@@ -4,7 +4,7 @@ use Prim.Native.Nat.{_-_, _≤_}
 use native.Mathlib.Omega.{arith}
 use lib.ListN.{length}
 use Rattle.rule.specs.Sets.{numbers}
-use Rattle.search.specs.Marks.{Written, Markings}
+use Rattle.search.specs.Marks.{MarksWritten, Markings}
 use Rattle.reaching.proofs.Laid.{laid-length}
 use Rattle.search.proofs.MarkedList.{passed, word-comes, no-word, next-word, all-words}
 use Rattle.search.proofs.list_marked.Statement.{statement}
@@ -12,7 +12,7 @@ use Rattle.search.proofs.list_marked.Tie as tie
 
 abbrev Inv-loop : tie.InvT-loop
 Inv-loop marks list₀ n₀ i₀ list n i =
-    (i ≤ 9) × ((t : Markings marks (length list₀)) → Written list₀ 0 (numbers (passed marks i) (t .m)) list n)
+    (i ≤ 9) × ((t : Markings marks (length list₀)) → MarksWritten list₀ 0 (numbers (passed marks i) (t .m)) list n)
 
 abbrev μ-loop : tie.MeasureT-loop
 μ-loop marks list₀ n₀ i₀ list n i = 9 - i

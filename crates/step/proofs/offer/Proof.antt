@@ -5,7 +5,7 @@ use lib.ListN.{length}
 use Rattle.rule.proofs.Passed.{passed-offer}
 use Rattle.rule.specs.Books.{theEdge}
 use Rattle.rule.specs.Reasons.{Pass, offerChecks}
-use Rattle.book.specs.Checks.{Holds}
+use Rattle.book.specs.Checks.{HoldsForests}
 use Rattle.engine.specs.Take.{Full}
 use Rattle.book.proofs.Checks.{passed}
 use Rattle.step.proofs.Asked.{offer-refused, InBytes, asked-in-bytes}
@@ -38,7 +38,7 @@ abbrev passed-at : tie.After-enum-told → tie.After-offer-checks
 passed-at c = c .before .before
 
 abbrev Held : tie.After-offer-checks → Type 0
-Held c = let last = c .offer-checks .last .1 .1 .1 .1 .1 in Holds (start-of c .args .book) (last .0) (last .1 .0) (last .1 .1 .0) (last .1 .1 .1 .0) (last .1 .1 .1 .1 .0)
+Held c = let last = c .offer-checks .last .1 .1 .1 .1 .1 in HoldsForests (start-of c .args .book) (last .0) (last .1 .0) (last .1 .1 .0) (last .1 .1 .1 .0) (last .1 .1 .1 .1 .0)
 
 fine : (c : tie.After-enum-told) → let start = start-of (passed-at c) in
     Pass (offerChecks (start .args .book) (theEdge (start .args .u) (start .args .v) (start .args .colour)) (start .args .list .now)) × Held (passed-at c)

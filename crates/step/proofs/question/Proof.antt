@@ -4,7 +4,7 @@ use mathlib.Core.Path.{refl}
 use Rattle.rule.proofs.Passed.{passed-question}
 use Rattle.rule.specs.Books.{theEdge}
 use Rattle.rule.specs.Reasons.{Pass, questionChecks}
-use Rattle.book.specs.Checks.{Holds}
+use Rattle.book.specs.Checks.{HoldsForests}
 use Rattle.book.proofs.Checks.{passed}
 use Rattle.step.proofs.Asked.{question-refused, InBytes, asked-in-bytes}
 use Rattle.step.proofs.question.Statement.{statement}
@@ -28,7 +28,7 @@ abbrev passed-at : tie.After-enum-told → tie.After-question-checks
 passed-at c = c .before .before
 
 abbrev Held : tie.After-question-checks → Type 0
-Held c = let last = c .question-checks .last .1 .1 .1 .1 .1 in Holds (start-of c .args .book) (last .0) (last .1 .0) (last .1 .1 .0) (last .1 .1 .1 .0) (last .1 .1 .1 .1 .0)
+Held c = let last = c .question-checks .last .1 .1 .1 .1 .1 in HoldsForests (start-of c .args .book) (last .0) (last .1 .0) (last .1 .1 .0) (last .1 .1 .1 .0) (last .1 .1 .1 .1 .0)
 
 fine : (c : tie.After-enum-told) → let start = start-of (passed-at c) in
     Pass (questionChecks (start .args .book) (theEdge (start .args .u) (start .args .v) (start .args .colour)) (start .args .list .now)) × Held (passed-at c)

@@ -17,7 +17,7 @@ use Rattle.rule.specs.Forests.{limit, inForest}
 use Rattle.rule.proofs.Tests.{cases, is-false, eq-of, eq-is, lt-of, not-lt, by-eq, in-split, without-make}
 use Rattle.theory.specs.Joined.{spans, onPath}
 use Rattle.theory.specs.Exchange.{Free}
-use Rattle.theory.specs.Search.{Waiting, edgeAt, fromAt, Result, andThen, begin, reach, pick, tryForest, tryForests, turn, turns, search}
+use Rattle.theory.specs.Search.{Waiting, edgeAt, fromAt, Result, andThen, begin, reach, pickResult, tryForest, tryForests, turn, turns, search}
 use Rattle.theory.specs.Search.Result.{found, going}
 use Rattle.theory.proofs.Joined.Laws.{spans-edge}
 use Rattle.theory.proofs.Exchange.Step.{path-needs}
@@ -129,17 +129,17 @@ module _ (d : Design) (forest : ℕ → ℕ) (e : ℕ) where
       let allowed : In (limit d x) i = omega arith in
       cases (forest x =? i)
       (λ own.
-      subst (λ (b : Bool). Tried q x i (pick b (going w) (pick (spans d (inForest forest i) x) (going (reaching d forest q i w)) (found q i w)))) (sym own)
+      subst (λ (b : Bool). Tried q x i (pickResult b (going w) (pickResult (spans d (inForest forest i) x) (going (reaching d forest q i w)) (found q i w)))) (sym own)
       (record {
         stage = one-more q j w s (λ k. subst (Done w q) (eq-of _ _ own) (own-done q w (s .reached) (s .so-far) h));
         here = h;
         is-x = refl;
       }))
       (λ other.
-      subst (λ (b : Bool). Tried q x i (pick b (going w) (pick (spans d (inForest forest i) x) (going (reaching d forest q i w)) (found q i w)))) (sym (is-false _ other))
+      subst (λ (b : Bool). Tried q x i (pickResult b (going w) (pickResult (spans d (inForest forest i) x) (going (reaching d forest q i w)) (found q i w)))) (sym (is-false _ other))
       (cases (spans d (inForest forest i) x)
       (λ joined.
-      subst (λ (b : Bool). Tried q x i (pick b (going (reaching d forest q i w)) (found q i w))) (sym joined)
+      subst (λ (b : Bool). Tried q x i (pickResult b (going (reaching d forest q i w)) (found q i w))) (sym joined)
       (let g : Grows w (reaching d forest q i w) = reach-grows d forest e q i w (s .reached) h allowed in
       record {
         stage = one-more q j (reaching d forest q i w) (stage-reach q j i w s h allowed) (λ k. reach-done q j i w s h allowed joined);
@@ -147,7 +147,7 @@ module _ (d : Design) (forest : ℕ → ℕ) (e : ℕ) where
         is-x = g .same-edge q h;
       }))
       (λ free.
-      subst (λ (b : Bool). Tried q x i (pick b (going (reaching d forest q i w)) (found q i w))) (sym (is-false _ free))
+      subst (λ (b : Bool). Tried q x i (pickResult b (going (reaching d forest q i w)) (found q i w))) (sym (is-false _ free))
       (record { reached = s .reached; before = s .before; waits = h; free = record { allowed = allowed; not-joined = free } }))))
 
   tried-one : (q x j : ℕ) (w : Waiting) → suc j ≤ limit d x → Trying q x j w → Tried q x (suc j) (tryForest d forest q x (suc j) w)

@@ -5,7 +5,7 @@ use Prim.Native.Nat.{_-_}
 use mathlib.Core.Path.{refl}
 use Rattle.text.proofs.Overwrites.{writes-as}
 use Rattle.theory.proofs.Legal.Sound.{sound-head}
-use Rattle.reports.specs.Reports.{bookText}
+use Rattle.reports.specs.Reports.{bookLines}
 use Rattle.lines.proofs.Adding.{adds-writes}
 use Rattle.lines.proofs.Rounds.{Rounds, rounds-none, rounds-room, rounds-more, rounds-all, rounds-length}
 use Rattle.writer.proofs.Sheets.{firstLines, lines-pieces, text-lines, lines-room}
@@ -13,7 +13,7 @@ use Rattle.writer.proofs.text_of.Statement.{statement}
 use Rattle.writer.proofs.text_of.Tie as tie
 
 abbrev Inv-loop : tie.InvT-loop
-Inv-loop book buffer₀ number end₀ i₀ buffer end i = Rounds (firstLines book) (bookText book .number) buffer₀ buffer 0 end i
+Inv-loop book buffer₀ number end₀ i₀ buffer end i = Rounds (firstLines book) (bookLines book .number) buffer₀ buffer 0 end i
 
 abbrev μ-loop : tie.MeasureT-loop
 μ-loop book buffer₀ number end₀ i₀ buffer end i = number - i
