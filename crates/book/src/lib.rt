@@ -3,6 +3,8 @@
 //
 // The scan goes through the edges in order and adds each kept one to the tables of the forests (crate tables), so that a loop shows as an
 // edge whose ends its forest already joins, and the tables stand ready for the search when the book is sound.
+#![tactic(auto)]
+
 mod tally;
 
 ghost use Rattle.std.specs.Prelude.{◌≡◌, ◌↔◌, List, ℕ, ◌≤◌, ◌<◌, length, get_or};
@@ -35,7 +37,7 @@ fn both_among(m: usize, i: usize, j: usize) -> bool
 
 // ---- opening
 
-#[derive(Drop)]
+#[derive(Clone, Copy)]
 pub struct Opened {
     pub answer: Done,
     pub book: Book,
@@ -205,7 +207,7 @@ pub fn scan<'a>(
 // ---- the checks
 
 // What the checks of a call answer.
-#[derive(Drop)]
+#[derive(Clone, Copy)]
 pub enum Checked {
     Fine,
     Refused(Reason),

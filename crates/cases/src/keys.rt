@@ -4,7 +4,7 @@ use crate::byte;
 use text::Reading;
 
 // What a line says: the letter of its key, or 0 where the line is not understood, and its numbers, with zeros behind them.
-#[derive(Drop)]
+#[derive(Clone, Copy)]
 pub struct Told {
     pub letter: u8,
     pub one: usize,
@@ -15,7 +15,7 @@ pub struct Told {
 }
 
 // A key that was found: its letter, or 0; the place past it; and how many numbers are due there.
-#[derive(Drop)]
+#[derive(Clone, Copy)]
 struct KeyFound {
     letter: u8,
     past: usize,

@@ -1,6 +1,8 @@
 // Files of cases, that programs read from standard input and run one by one. A line `case=` with a name begins a case, and the lines up to the next
 // such line belong to it; what they say is the program's own. Empty lines, and lines that begin with #, say nothing. keys.rt reads lines that name a
 // call and its numbers, say.rt writes what a call answers.
+#![tactic(auto)]
+
 pub mod keys;
 pub mod say;
 

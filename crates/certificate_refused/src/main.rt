@@ -1,4 +1,6 @@
 // The certificate program, run on a text that is refused: the two ends of its edge are one body.
+#![tactic(auto)]
+
 use pager::Kind;
 
 fn main() {

@@ -2,6 +2,8 @@
 //
 // Its circuit is that of an edge offered anew between the same bodies and of the same colour. A book that was not grown from empty may hold
 // an edge in no forest that could be kept: then every kept edge is in its circuit, as the definition has it.
+#![tactic(auto)]
+
 ghost use Rattle.std.specs.Prelude.{◌≤◌, length};
 ghost use Rattle.rule.specs.Sets.{◌<?◌, count as counted, at, numbers};
 ghost use Rattle.rule.specs.Books.{design_of, kept_of};

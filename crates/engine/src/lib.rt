@@ -1,5 +1,7 @@
 // The place of an offered edge, over the lists of a sound book and the tables of its forests (crate tables). Here the search, the path
 // and the shift come together; offer, question and the book reader stand on this.
+#![tactic(auto)]
+
 ghost use Rattle.std.specs.Prelude.{◌≡◌, List, ℕ, ◌+◌, ◌≤◌, ◌<◌, length};
 ghost use Rattle.rule.specs.Books.{the_edge};
 ghost use Rattle.engine.specs.Seek.{book_of, Seekable, Seeks};
@@ -8,7 +10,7 @@ ghost use Rattle.engine.specs.Take.{longer, Entered, Takeable, Takes};
 use rule::{Answer, Book};
 
 // What a book remembers besides its lists.
-#[derive(Drop)]
+#[derive(Clone, Copy)]
 pub struct Head {
     pub a: u8,
     pub b: u8,
@@ -17,7 +19,7 @@ pub struct Head {
 }
 
 // Where the search for a place ended: after so many edges of a path, in a forest; or nowhere, and then how many edges the circuit has.
-#[derive(Drop)]
+#[derive(Clone, Copy)]
 pub enum Place {
     Found(usize, u8),
     Stuck(u16),

@@ -5,6 +5,8 @@
 // deleted again and again. The limits of red and of black edges are parameters. What is left is held as the forests of its edges, 0
 // for an edge that is deleted, so that a pass needs nothing but the labels of the forests that are left. The class of a body is
 // then a word: the bodies of its trees, forest by forest, and its lowest bit is the smallest of them.
+#![tactic(auto)]
+
 ghost use Rattle.std.specs.Prelude.{◌≡◌, cond, ℕ, suc, ◌-◌, ◌≤◌, ◌<◌, length};
 ghost use Rattle.rule.specs.Sets.{In, ◌=?◌, at};
 ghost use Rattle.rule.specs.Books.{Sound};

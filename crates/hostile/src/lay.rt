@@ -6,14 +6,14 @@ ghost use Rattle.std.specs.Prelude.{◌≤◌, ◌<◌, length};
 use text::Reading;
 
 // Where the text ends now; or the line was not understood.
-#[derive(Drop)]
+#[derive(Clone, Copy)]
 pub enum LineLaid {
     To(usize),
     Bad,
 }
 
 // What the next bytes of a line stand for.
-#[derive(Drop)]
+#[derive(Clone, Copy)]
 enum Piece {
     Byte(u8),
     Nothing,

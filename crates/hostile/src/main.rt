@@ -1,6 +1,8 @@
 // Texts that a host might hand over: most of them are no book. For each, its name, the line at fault as the library hands it back, in brackets and
 // with bytes that do not print as their number, and the first line of its report. The texts are read from standard input: the file stdin says how they
 // are written there, and tests/texts.py reads it too. The file stdout has what document 01 says of them, decided by hand.
+#![tactic(auto)]
+
 mod lay;
 
 use cases::say;
@@ -9,7 +11,7 @@ use pager::Kind;
 use reports::Line;
 
 // The case that is being read: whether there is one yet, and how long its text is so far.
-#[derive(Drop)]
+#[derive(Clone, Copy)]
 struct Case {
     open: bool,
     size: usize,

@@ -2,6 +2,8 @@
 //
 // The bodies of one tree have one label, and the word at a label has the bodies with that label (crate tables, src/lib.rt, says where
 // each stands). Of two trees that an edge joins, the smaller takes the label of the other.
+#![tactic(auto)]
+
 ghost use Rattle.std.specs.Prelude.{◌≡◌, ◌+◌, ◌<◌};
 ghost use Rattle.rule.specs.Sets.{In};
 ghost use Rattle.tables.specs.Tables.{start};

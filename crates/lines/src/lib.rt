@@ -1,5 +1,7 @@
 // Lines, written into the unwritten rest of a lent buffer: each writer of a line is lent the part from the current end on and answers how
 // far it wrote. Inside, a line is made from its front on: the functions `add_..` write from a place on and answer the place past it.
+#![tactic(auto)]
+
 ghost use Rattle.std.specs.Prelude.{◌≡◌, [], ◌∷◌, ◌++◌, suc, ◌+◌, ◌≤◌, ◌<◌, length, take};
 ghost use Rattle.rule.specs.Books.{edge_of};
 ghost use Rattle.rule.specs.Calls.{Filled};

@@ -1,5 +1,7 @@
 // A new edge goes to its place: along the path that the search found, each edge takes the place of the next, and the last goes into the
 // forest found. The book's forests and their tables (crate tables) change together.
+#![tactic(auto)]
+
 ghost use Rattle.std.specs.Prelude.{◌≡◌, ◌-◌, length, set};
 ghost use Rattle.rule.specs.Sets.{In, at};
 ghost use Rattle.moving.specs.Moves.{Exchangeable, Exchanged, Replanting, Replanted};

@@ -1,6 +1,8 @@
 // Small designs, refusals and large books with known outcomes: a line for each case, its name and what the calls answer. The cases are read from
 // standard input, a call or an edit of the book to a line: the file stdin says which there are, and tests/known.py reads the designs there too. The
 // file stdout has what the definitions of document 01 give.
+#![tactic(auto)]
+
 mod asks;
 mod changes;
 

@@ -5,6 +5,8 @@
 // checks the buffer. The lines are then written one behind the other, each into the unwritten rest of the buffer.
 //
 // Whether it is the report or the certificate is a parameter: a face for each would only say both functions and their contracts twice.
+#![tactic(auto)]
+
 mod certificate;
 
 ghost use Rattle.std.specs.Prelude.{◌≡◌, [], ◌∷◌, ◌++◌, suc, ◌≤◌, ◌<◌, length};
@@ -24,7 +26,7 @@ use reports::{Line, Received, State, Stepped};
 use rule::{Book, Reason};
 
 // Which of the two a page is of.
-#[derive(Drop)]
+#[derive(Clone, Copy)]
 pub enum Kind {
     Report,
     Certificate,
@@ -204,7 +206,7 @@ fn line(
 }
 
 // How far a page has come: the line that is next, and the end of what is written.
-#[derive(Drop)]
+#[derive(Clone, Copy)]
 pub struct PageEnd {
     pub line: u16,
     pub end: usize,

@@ -5,6 +5,8 @@
 // edge's ends as the two words give it, with the new slot's bit; so across the new edge two bodies differ in its bit, and in those
 // between either body and its end. An edge that takes another's place takes its slot, and the words on one side of the edge
 // that goes change by the path between the ends of the one that comes.
+#![tactic(auto)]
+
 ghost use Rattle.std.specs.Prelude.{◌≡◌, true, ◌≤◌, ◌<◌};
 ghost use Rattle.std.specs.Int.Bits.{bit_xor};
 ghost use Rattle.rule.specs.Sets.{In};

@@ -3,6 +3,8 @@
 //
 // What was handed over is a value of module output, which only that module makes: each page is required to be the lines that are next, and at the
 // end all lines have come, unless a read or a write has failed; after that nothing further is written.
+#![tactic(auto)]
+
 mod output;
 
 ghost use Rattle.std.specs.Prelude.{◌≡◌, true, take};
@@ -16,7 +18,7 @@ use reports::{Line, State};
 // ---- the input
 
 // What was read: so many bytes, up to the end of the input or as many as there are places; or a read failed.
-#[derive(Drop)]
+#[derive(Clone, Copy)]
 pub enum Input {
     Bytes(usize),
     Failed,
@@ -44,7 +46,7 @@ fn read_input(input: &mut [u8]) -> Input
 // ---- the pages
 
 // What one turn leaves behind: what was handed over by then, and whether it was the last.
-#[derive(Drop)]
+#[derive(Clone, Copy)]
 struct Turn {
     sent: Sent,
     last: bool,

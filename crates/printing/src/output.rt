@@ -10,7 +10,7 @@ use pager::Kind;
 use reports::{State, Stepped};
 
 // Of which report or certificate lines were handed over, the state after them, and whether a read or a write has failed.
-#[derive(Drop)]
+#[derive(Clone, Copy)]
 pub struct Sent {
     kind: Kind,
     state: State,

@@ -1,4 +1,6 @@
 // The turn of one waiting edge: it tries its forests, and the edges on its paths come to wait.
+#![tactic(auto)]
+
 ghost use Rattle.std.specs.Prelude.{◌≢◌, ◌≡◌, ◌<◌, ◌≤◌, length};
 ghost use Rattle.rule.specs.Sets.{In, numbers};
 ghost use Rattle.rule.specs.Forests.{limit};
@@ -8,7 +10,7 @@ ghost use Rattle.reaching.specs.Words.{Coming, standing_at, CameToWait};
 ghost use Rattle.reaching.specs.Trying.{Tells, Trying, After};
 
 // What trying forests brought: one of them is free; or none, and so many edges wait now.
-#[derive(Drop)]
+#[derive(Clone, Copy)]
 pub enum Tried {
     Free(usize),
     Waits(usize),

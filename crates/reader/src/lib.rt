@@ -1,5 +1,7 @@
 // Reading book text: each line is read once, and its edge entered in lists (crate text); then a book is opened and offered the edges in
 // order. The tables of the forests are kept from one edge to the next (crate engine), so that no scan of the book is made.
+#![tactic(auto)]
+
 ghost use Rattle.std.specs.Prelude.{◌≡◌};
 ghost use Rattle.rule.specs.Calls.{new_book};
 ghost use Rattle.text.specs.Sheets.{SheetRange};

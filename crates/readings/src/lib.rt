@@ -1,1 +1,2 @@
 // What the definitions of crate reports come to: theorems in proofs/. No code.
+#![tactic(auto)]

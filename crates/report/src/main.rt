@@ -1,4 +1,6 @@
 // The report of a book text: one line for each edge, then the figures of the whole (document 01, "The report, whole").
+#![tactic(auto)]
+
 use pager::Kind;
 
 fn main() {

@@ -1,4 +1,6 @@
 // The report program, run on the text that document 01 lists ("The report, whole"). Not here: a text of 512 edges, whose pages are many (crate report).
+#![tactic(auto)]
+
 use pager::Kind;
 
 fn main() {

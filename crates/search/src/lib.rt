@@ -1,4 +1,6 @@
 // The search for a place of a new edge, the path to it, and the circuit where there is none.
+#![tactic(auto)]
+
 ghost use Rattle.std.specs.Prelude.{◌≡◌, cond, ℕ, ◌+◌, ◌<◌, ◌≤◌, length, get_or};
 ghost use Rattle.rule.specs.Sets.{Is, ◌=?◌, numbers};
 ghost use Rattle.rule.specs.Books.{the_edge};
@@ -12,7 +14,7 @@ use reaching::Tried;
 
 // Where the search has come to: its end, at a place of the queue, in a forest where the edge there is free; or no end, and so many edges
 // wait.
-#[derive(Drop)]
+#[derive(Clone, Copy)]
 pub enum Outcome {
     Found(usize, usize),
     Stuck(usize),

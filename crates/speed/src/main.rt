@@ -2,6 +2,8 @@
 // the text is read so many times, with the tables kept between offers; after o it is read once, and then so many times every edge of the book
 // goes through the public offer to a new one, which scans that first; after t the text is so many times judged and its edges entered in lists,
 // and none is offered. What is printed is a sum over the books, so that the work cannot be left out.
+#![tactic(auto)]
+
 ghost use Rattle.std.specs.Prelude.{◌≤◌, ◌<◌};
 
 use rule::Book;

@@ -3,6 +3,8 @@
 //
 // Both check, and so scan the book, whose forests the tables then hold; then an offer takes the edge (crate engine), and a question
 // only seeks its place.
+#![tactic(auto)]
+
 ghost use Rattle.std.specs.Prelude.{◌≡◌};
 ghost use Rattle.rule.specs.Books.{the_edge};
 ghost use Rattle.rule.specs.Calls.{Offer, Question};
@@ -14,7 +16,7 @@ use engine::{Head, Place};
 use rule::{Answer, Book};
 
 // What an offer answers, and the book after it.
-#[derive(Drop)]
+#[derive(Clone, Copy)]
 pub struct Offered {
     pub answer: Answer,
     pub book: Book,

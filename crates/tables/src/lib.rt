@@ -5,6 +5,8 @@
 // j exactly when the edge in slot j is on the path between them. At index (f - 1) * 64 + j: `edge`, the number of the edge in slot
 // j. At index (f - 1) * 64 + l: `who`, the bodies of the tree with label l, body v as bit v - 1. At index f - 1: `size`, how many
 // slots are filled. What the tables hold is said in specs/Tables.antt.
+#![tactic(auto)]
+
 ghost use Rattle.std.specs.Prelude.{◌≡◌, ◌<◌};
 ghost use Rattle.rule.specs.Sets.{In, ◌=?◌};
 ghost use Rattle.tables.specs.Tables.{spot, label, word};

@@ -1,4 +1,6 @@
 // Book text: reading a line, judging a text, and writing numbers. What they mean is said in specs/, in the words of document 01.
+#![tactic(auto)]
+
 pub mod put;
 
 ghost use Rattle.std.specs.Prelude.{◌≡◌, ◌+◌, ◌≤◌, ◌<◌, length, get_or, drop};
@@ -11,14 +13,14 @@ ghost use Rattle.text.specs.Judgements.{IsHead, Enters, Judges, LineRefused, Lin
 use rule::Reason;
 
 // What reading a number finds: its value, and how many bytes were used or, at a place of a text, the place past it.
-#[derive(Drop)]
+#[derive(Clone, Copy)]
 pub enum Reading {
     Value(usize, usize),
     Nothing,
 }
 
 // What reading an edge line finds: its two bodies, its colour (1 red, 2 black) and the place past its LF.
-#[derive(Drop)]
+#[derive(Clone, Copy)]
 pub enum EdgeRead {
     Joins {
         one: usize,
@@ -30,28 +32,28 @@ pub enum EdgeRead {
 }
 
 // A number line in range, as its value and the place past it; or why not.
-#[derive(Drop)]
+#[derive(Clone, Copy)]
 pub enum Numbered {
     Value(usize, usize),
     Refused(Reason),
 }
 
 // The key that opens an edge line: its colour and the place past it.
-#[derive(Drop)]
+#[derive(Clone, Copy)]
 pub enum Key {
     Opens(u8, usize),
     Nothing,
 }
 
 // An edge line in range, as its two bodies, its colour and the place past it; or why not.
-#[derive(Drop)]
+#[derive(Clone, Copy)]
 pub enum Step {
     On(u8, u8, u8, usize),
     Refused(Reason),
 }
 
 // What a text is: a sheet in range, with the number of its edges; or refused, with the number of the line at fault, counted from 1.
-#[derive(Drop)]
+#[derive(Clone, Copy)]
 pub enum Judgement {
     Sheet { a: u8, b: u8, n: u8, edges: u16 },
     Refused(Reason, usize),

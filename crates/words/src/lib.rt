@@ -1,4 +1,6 @@
 // Words of 64 bits, bit by bit.
+#![tactic(auto)]
+
 ghost use Rattle.std.specs.Prelude.{◌≡◌, ℕ, ◌<◌, ◌^◌};
 ghost use Rattle.rule.specs.Sets.{Is};
 ghost use Rattle.words.specs.Bits.{bit, Lowest, Without};

@@ -1,5 +1,7 @@
 // The text of a book, written into a lent buffer: document 01, "Book text". Its lines are those that a certificate begins with, and one function
 // writes both (crate lines).
+#![tactic(auto)]
+
 ghost use Rattle.std.specs.Prelude.{◌≤◌, length};
 ghost use Rattle.rule.specs.Books.{Sound};
 ghost use Rattle.text.specs.Sheets.{text_of, text_room};
