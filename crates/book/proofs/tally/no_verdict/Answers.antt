@@ -1,0 +1,10 @@
+-- `book::no_verdict`: case by case.
+use mathlib.Core.Path.{sym, ap}
+use Rattle.book.specs.Checks.{judged_of}
+use Rattle.book.proofs.tally.no_verdict.Goals as goal
+
+pub returns-in-Fine : goal.returns-in-Fine
+returns-in-Fine c = sym (ap judged_of c.in-Fine.is)
+
+pub returns-in-Refused : goal.returns-in-Refused
+returns-in-Refused c = sym (ap judged_of c.in-Refused.is)

@@ -1,0 +1,11 @@
+-- What `read_input` keeps true from turn to turn, and what its turns count down.
+use mathlib.Core.Path.{◌≡◌}
+use Prim.Native.Nat.{◌-◌, ◌≤◌}
+use lib.ListN.{length}
+use Rattle.printing.proofs.read_input.Given as goal
+
+abbrev pub invariant-loop-done : goal.invariant-loop-done
+invariant-loop-done l = (l.done ≤ length l.input) × (length l.input ≡ length l.initial.input)
+
+abbrev pub decreases-loop-done : goal.decreases-loop-done
+decreases-loop-done l = length l.initial.input - l.done
