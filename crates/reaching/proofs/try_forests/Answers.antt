@@ -20,7 +20,7 @@ try_forest-t-requires c =
     (waits_on t c.loop-tried.tried (c.loop-tried.invariant.1 t last own), (omega arith, λ q. c.if-f-own.false (sym q ∙ own)))
 
 pub returns-in-Free : goal.returns-in-Free
-returns-in-Free c =
+returns-in-Free c t last own =
     let a = c.loop-tried.invariant.1 t last own in
     found_stays t _ (c.loop-tried.tried + 1) c.args.last (omega arith)
     (next_found t c.loop-tried.tried a
@@ -38,4 +38,4 @@ loop-tried-preserved c = (
 )
 
 pub returns : goal.returns
-returns c = all_tried t (omega arith) (c.loop-tried.invariant.1 t last own)
+returns c t last own = all_tried t (omega arith) (c.loop-tried.invariant.1 t last own)

@@ -29,4 +29,4 @@ pub shape_of-list : goal.shape_of-list
 shape_of-list c = laid_length (c.loop-i.invariant.1 c.requires).laid
 
 pub returns : goal.returns
-returns c = all_words c.args.marks.now t c.loop-i.i (omega arith) (c.loop-i.invariant.1 t)
+returns c t = all_words c.args.marks.now t c.loop-i.i (omega arith) (c.loop-i.invariant.1 t)
