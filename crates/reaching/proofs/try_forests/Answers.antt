@@ -1,6 +1,6 @@
 -- `reaching::try_forests`: after each turn the arrays hold what the model has when one forest more is tried; a free forest ends both.
 use mathlib.Core.Path.{sym, ◌∙◌, subst}
-use Prim.Native.Nat.{◌+◌, ◌-◌}
+use Prim.Native.Nat.{◌+◌}
 use native.Mathlib.Omega.{arith}
 use Rattle.reaching.specs.Trying.{Tells}
 use Rattle.reaching.proofs.AllForests.{none_tried, found_stays, all_tried, waits_on, own_passed, next_found, next_tried}
