@@ -1,5 +1,4 @@
 -- `search::list_marked`: the numbers of the words passed stand in the list.
-use Prim.Native.Nat.{◌-◌}
 use native.Mathlib.Omega.{arith}
 use Rattle.reaching.proofs.Laid.{laid_length}
 use Rattle.search.proofs.MarkedList.{word_comes, no_word, next_word, all_words}

@@ -1,7 +1,7 @@
 -- `search::turns`: after each turn the arrays hold what the model has after one turn more; where no edge is left to have its turn, or the search has
 -- ended, the model stays as it is.
 use mathlib.Core.Path.{subst}
-use Prim.Native.Nat.{◌+◌, ◌-◌, ◌≤◌}
+use Prim.Native.Nat.{◌+◌, ◌≤◌}
 use native.Mathlib.Omega.{arith}
 use Rattle.search.specs.Answers.{Answers}
 use Rattle.search.proofs.AllTurns.{ended, all_edges, few_waiting, all_over}
