@@ -9,7 +9,7 @@ use native.Mathlib.Omega.{arith}
 use Rattle.rule.proofs.Tests.{by_eq}
 use Rattle.theory.specs.Search.{Waiting, Result, and_then, try_forest, try_forests}
 use Rattle.theory.specs.Search.Result.{found, going}
-use Rattle.theory.proofs.Search.Reached.{size, grows_refl, grows_trans}
+use Rattle.theory.proofs.Search.Reached.{grows_refl, grows_trans}
 use Rattle.reaching.specs.declared.Tried.TheVariants.{Free, Waits}
 use Rattle.reaching.specs.Trying.{Comes, Tells, Trying, After}
 use Rattle.reaching.proofs.Further.{try_own}

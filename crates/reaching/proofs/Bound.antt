@@ -6,7 +6,7 @@ use mathlib.Core.List.{List}
 use Prim.Native.Nat.{ℕ, zero, suc, ◌≤◌, ◌<◌}
 use native.Mathlib.Omega.{arith}
 use Rattle.rule.specs.Sets.{Is, ◌and◌, ◌=?◌, Set, In, ◌without◌, count}
-use Rattle.rule.specs.Legal.{Design, k}
+use Rattle.rule.specs.Legal.{Design}
 use Rattle.rule.proofs.Tests.{cases, and_r, eq_of, by_eq, by_le, without_old, without_ne}
 use Rattle.rule.proofs.Counting.{count_none, count_without}
 use Rattle.theory.specs.Search.{Waiting, edge_at, from_at}

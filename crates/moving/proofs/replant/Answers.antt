@@ -5,7 +5,7 @@ use Rattle.moving.proofs.Walking.{walking_start, can_step, walking_step, last_nu
 use Rattle.moving.proofs.replant.Goals as goal
 
 pub loop-i-init : goal.loop-i-init
-loop-i-init c = walking_start t
+loop-i-init c t = walking_start t
 
 pub offset_bounds-path-i : goal.offset_bounds-path-i
 offset_bounds-path-i c = let few = (c.loop-i.invariant c.requires).places in let most = c.requires.places in search rules
@@ -19,7 +19,7 @@ exchange-requires c =
     can_step t c.loop-i.forests c.loop-i.way c.loop-i.edge c.loop-i.i c.loop-i.x (omega arith) (c.loop-i.invariant t)
 
 pub loop-i-preserved : goal.loop-i-preserved
-loop-i-preserved c =
+loop-i-preserved c t =
     walking_step t c.loop-i.forests c.loop-i.way c.loop-i.edge c.loop-i.i c.loop-i.x (omega arith) (c.loop-i.invariant t)
     _ _ _ c.exchange.ensures
 
@@ -47,6 +47,6 @@ store-requires c =
     (last_number t c.loop-i.forests c.loop-i.way c.loop-i.edge c.loop-i.i c.loop-i.x (omega arith) w, w.forests_long)
 
 pub returns : goal.returns
-returns c =
+returns c t =
     walked_all t c.loop-i.forests c.loop-i.way c.loop-i.edge c.loop-i.i c.loop-i.x (omega arith) (c.loop-i.invariant t)
     c.read-u.result c.read-v.result c.read-u.ensures c.read-v.ensures _ _ _ _ _ _ c.add.ensures c.store.ensures

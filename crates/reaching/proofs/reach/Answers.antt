@@ -9,7 +9,7 @@ use Rattle.reaching.proofs.Coming.{reaching_begins, reaching_room, reaching_next
 use Rattle.reaching.proofs.reach.Goals as goal
 
 pub loop-left-init : goal.loop-left-init
-loop-left-init c =
+loop-left-init c t =
     reaching_begins (standing_at c.args.edge.now c.args.base) t.edges t.most c.args.size c.args.place c.args.word c.args.queue.now
     c.args.from.now t.carried t.room c.requires.1 c.requires.2
 
@@ -54,8 +54,8 @@ overflow_add-n c =
     omega (arith, (so_far).0)
 
 pub loop-left-preserved : goal.loop-left-preserved
-loop-left-preserved c =
+loop-left-preserved c t =
     reaching_next (c.loop-left.invariant t) c.lowest-t.ensures c.without-left.ensures c.requires.2 c.wait.ensures
 
 pub returns : goal.returns
-returns c = reaching_ends (c.loop-left.invariant t) c.loop-left-test.false
+returns c t = reaching_ends (c.loop-left.invariant t) c.loop-left-test.false

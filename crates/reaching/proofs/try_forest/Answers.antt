@@ -41,10 +41,10 @@ reach-more-requires c =
     )
 
 pub returns-then-joined : goal.returns-then-joined
-returns-then-joined c =
+returns-then-joined c t allowed ne =
     let spanned = joined_then t allowed c.joined.ensures c.if-joined.true in
     let on = c.path-on.ensures in
     joined_answers t allowed spanned on ne (c.reach-more.ensures (path_comes t allowed spanned on))
 
 pub returns-else-joined : goal.returns-else-joined
-returns-else-joined c = free_answers t allowed ne (free_then t allowed c.joined.ensures c.if-joined.false)
+returns-else-joined c t allowed ne = free_answers t allowed ne (free_then t allowed c.joined.ensures c.if-joined.false)

@@ -1,6 +1,6 @@
 -- `reaching::try_forests`: after each turn the arrays hold what the model has when one forest more is tried; a free forest ends both.
 use mathlib.Core.Path.{sym, ◌∙◌, subst}
-use Prim.Native.Nat.{◌+◌, ◌-◌}
+use Prim.Native.Nat.{◌+◌}
 use native.Mathlib.Omega.{arith}
 use Rattle.reaching.specs.Trying.{Tells}
 use Rattle.reaching.proofs.AllForests.{none_tried, found_stays, all_tried, waits_on, own_passed, next_found, next_tried}
@@ -20,7 +20,7 @@ try_forest-t-requires c =
     (waits_on t c.loop-tried.tried (c.loop-tried.invariant.1 t last own), (omega arith, λ q. c.if-f-own.false (sym q ∙ own)))
 
 pub returns-in-Free : goal.returns-in-Free
-returns-in-Free c =
+returns-in-Free c t last own =
     let a = c.loop-tried.invariant.1 t last own in
     found_stays t _ (c.loop-tried.tried + 1) c.args.last (omega arith)
     (next_found t c.loop-tried.tried a
@@ -38,4 +38,4 @@ loop-tried-preserved c = (
 )
 
 pub returns : goal.returns
-returns c = all_tried t (omega arith) (c.loop-tried.invariant.1 t last own)
+returns c t last own = all_tried t (omega arith) (c.loop-tried.invariant.1 t last own)

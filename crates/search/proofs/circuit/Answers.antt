@@ -13,6 +13,6 @@ list_marked-requires c =
     markings c.requires.1 c.mark.ensures c.requires.0
 
 pub returns : goal.returns
-returns c =
+returns c t =
     let marked = c.mark.ensures in
     others_listed t marked (c.list_marked.ensures (markings t marked c.requires.0))

@@ -1,5 +1,4 @@
 -- `search::list_marked`: the numbers of the words passed stand in the list.
-use Prim.Native.Nat.{◌-◌}
 use native.Mathlib.Omega.{arith}
 use Rattle.reaching.proofs.Laid.{laid_length}
 use Rattle.search.proofs.MarkedList.{word_comes, no_word, next_word, all_words}
@@ -29,4 +28,4 @@ pub shape_of-list : goal.shape_of-list
 shape_of-list c = laid_length (c.loop-i.invariant.1 c.requires).laid
 
 pub returns : goal.returns
-returns c = all_words c.args.marks.now t c.loop-i.i (omega arith) (c.loop-i.invariant.1 t)
+returns c t = all_words c.args.marks.now t c.loop-i.i (omega arith) (c.loop-i.invariant.1 t)

@@ -8,7 +8,7 @@ use Rattle.search.proofs.Listing.{listing_begins, listing_room, listing_next, li
 use Rattle.search.proofs.list_word.Goals as goal
 
 pub loop-left-init : goal.loop-left-init
-loop-left-init c = listing_begins t
+loop-left-init c t = listing_begins t
 
 pub offset_bounds-list-n : goal.offset_bounds-list-n
 offset_bounds-list-n c =
@@ -35,10 +35,10 @@ overflow_add-n c =
     omega (arith, (room).0)
 
 pub loop-left-preserved : goal.loop-left-preserved
-loop-left-preserved c = listing_next t (c.loop-left.invariant t) c.lowest-t.ensures c.without-left.ensures
+loop-left-preserved c t = listing_next t (c.loop-left.invariant t) c.lowest-t.ensures c.without-left.ensures
 
 pub shape_of-list : goal.shape_of-list
 shape_of-list c = laid_length (c.loop-left.invariant c.requires.1).written.laid
 
 pub returns : goal.returns
-returns c = listing_ends t (c.loop-left.invariant t) c.loop-left-test.false
+returns c t = listing_ends t (c.loop-left.invariant t) c.loop-left-test.false

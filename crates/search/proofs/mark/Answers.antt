@@ -1,6 +1,6 @@
 -- `search::mark`: the edges at the places passed are marked, and no others (`Marked`).
 use mathlib.Core.Path.{◌≡◌, sym, ◌∙◌, subst}
-use Prim.Native.Nat.{ℕ, ◌+◌, ◌-◌, ◌/◌, ◌<◌}
+use Prim.Native.Nat.{ℕ, ◌+◌, ◌/◌, ◌<◌}
 use native.Mathlib.Omega.{arith}
 use lib.Bits.{bit_or}
 use lib.ListN.{get_or, set, length-set}

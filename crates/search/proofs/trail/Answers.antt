@@ -77,8 +77,8 @@ loop-q-smaller c =
     back
 
 pub loop-q-preserved : goal.loop-q-preserved
-loop-q-preserved c =
+loop-q-preserved c t =
     leading_next t c.loop-q.q c.loop-q.n (c.loop-q.invariant t) c.requires.0 (omega arith)
 
 pub returns : goal.returns
-returns c = leading_ends t c.loop-q.q c.loop-q.n (c.loop-q.invariant t) c.loop-q-test.false
+returns c t = leading_ends t c.loop-q.q c.loop-q.n (c.loop-q.invariant t) c.loop-q-test.false

@@ -1,7 +1,7 @@
 -- `search::turns`: after each turn the arrays hold what the model has after one turn more; where no edge is left to have its turn, or the search has
 -- ended, the model stays as it is.
 use mathlib.Core.Path.{subst}
-use Prim.Native.Nat.{◌+◌, ◌-◌, ◌≤◌}
+use Prim.Native.Nat.{◌+◌, ◌≤◌}
 use native.Mathlib.Omega.{arith}
 use Rattle.search.specs.Answers.{Answers}
 use Rattle.search.proofs.AllTurns.{ended, all_edges, few_waiting, all_over}
@@ -16,7 +16,7 @@ turn-r-requires c =
     (g, (c.loop-q.invariant.0, (c.loop-q-test.true, (c.loop-q.invariant.1 g c.requires.1).1)))
 
 pub returns-in-Found : goal.returns-in-Found
-returns-in-Found c =
+returns-in-Found c g s =
     let r = c.loop-q.invariant.1 g s in
     ended g (c.loop-q.q + 1) (omega (arith, all_edges g c.loop-q.q r.1))
     (subst (Answers _ _) c.in-Found.is (c.turn-r.ensures g r.1))
@@ -42,6 +42,6 @@ loop-q-preserved c = (
 )
 
 pub returns : goal.returns
-returns c =
+returns c g s =
     let r = c.loop-q.invariant.1 g s in
     all_over g c.loop-q.q r.1 c.loop-q-test.false r.0
