@@ -2,10 +2,10 @@
 -- obeys its rule exactly when its numbers are fine and its forest does not join its ends: the chains of smaller edges are the
 -- forest so far. So planting it goes on, or tells the first edge that breaks its rule.
 -- Assumes nothing.
-use mathlib.Core.Path.{◌≡◌, refl, sym, ap, ◌∙◌, subst}
+use mathlib.Core.Path.{◌≡◌, refl, sym, ◌∙◌, subst}
 use mathlib.Core.Bool.{Bool, true, false, false≢true}
 use mathlib.Core.List.{List}
-use Prim.Native.Nat.{ℕ, zero, suc, ◌+◌, ◌≤◌, ◌<◌}
+use Prim.Native.Nat.{ℕ, suc, ◌+◌, ◌≤◌, ◌<◌}
 use native.Mathlib.Numerals.{add-one}
 use native.Mathlib.Omega.{arith}
 use lib.ListN.{get_or}
@@ -19,11 +19,11 @@ use Rattle.theory.specs.Joined.{joined, spans}
 use Rattle.theory.proofs.Joined.Chains.{joined_chain, chain_joined}
 use Rattle.theory.proofs.Joined.Acyclic.{Acyclic, loopless_acyclic}
 use Rattle.theory.proofs.Legal.Kept.{forest_make}
-use Rattle.tables.specs.Tables.{label, filled, Tabled}
+use Rattle.tables.specs.Tables.{label, Tabled}
 use Rattle.planting.specs.Calls.{Sized}
 use Rattle.planting.proofs.Few.{room_left}
 use Rattle.labels.specs.Labels.{Begun}
-use Rattle.book.specs.Scan.{EdgeFine, Permits, Plantable, EdgePlanted, Cleared, FirstEdge, Scanned}
+use Rattle.book.specs.Scan.{EdgeFine, Plantable, EdgePlanted, Cleared, FirstEdge, Scanned}
 use Rattle.book.proofs.Edges.{permits_most}
 use Rattle.book.proofs.UpTo.{up_to, upto_past, upto_most, upto_stands, upto_below, below_upto, upto_more, tabled_none, tabled_all}
 

@@ -1,6 +1,6 @@
 -- `book::kept`: so far, the placed ones of the first e edges are counted. The test is read as what it says of the forest, not by how it is written.
 use mathlib.Core.Path.{◌≡◌, ◌∙◌, subst}
-use Prim.Native.Nat.{ℕ, ◌-◌}
+use Prim.Native.Nat.{ℕ}
 use native.Mathlib.Omega.{arith}
 use Rattle.rule.specs.Sets.{count as counted}
 use Rattle.rule.proofs.Counting.{count_le}
