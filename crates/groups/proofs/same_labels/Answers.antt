@@ -1,6 +1,6 @@
 use mathlib.Core.Path.{◌≡◌, sym, ◌∙◌, subst}
 use mathlib.Core.Bool.{false, false≢true}
-use Prim.Native.Nat.{ℕ, ◌+◌, ◌-◌}
+use Prim.Native.Nat.{ℕ, ◌+◌}
 use native.Mathlib.Numerals.{add-one}
 use Rattle.rule.proofs.Tests.{is_false}
 use Rattle.tables.specs.Tables.{label}
@@ -8,9 +8,6 @@ use Rattle.rule.specs.Sets.{Is, ◌=?◌}
 use Rattle.groups.specs.Passes.{same_labels}
 use Rattle.groups.proofs.Reading.{same_none, same_more, same_at}
 use native.Mathlib.Omega.{arith}
-use Rattle.groups.proofs.same_labels.Reads as reads
-use Rattle.groups.proofs.same_labels.Lts as lts
-use Rattle.tables.proofs.joined.Reads as joined_reads
 use Rattle.groups.proofs.same_labels.Goals as goal
 
 -- src/lib.rt:13:5

@@ -1,7 +1,7 @@
 -- `groups::thin`: the edges are judged one by one (Judging.antt), all by the same labels.
 use mathlib.Core.Path.{sym, ◌∙◌}
 use mathlib.Core.Bool.{false≢true}
-use Prim.Native.Nat.{suc, ◌-◌}
+use Prim.Native.Nat.{suc}
 use native.Mathlib.Omega.{arith}
 use Rattle.groups.proofs.Judging.{judged_none, judged_few, judged_all, judged_stays, judged_empty, judged_gone}
 use Rattle.groups.proofs.thin.Goals as goal
