@@ -3,22 +3,21 @@
 -- In order: a list of checks and more checks behind it; what the scan says of the book; the checks of an edge.
 -- Assumes nothing.
 use mathlib.Core.Path.{◌≡◌, refl, sym, ap, ◌∙◌, subst}
-use mathlib.Core.Logic.{◌⊎◌, inl, inr, ◌↔◌, ◌≢◌}
+use mathlib.Core.Logic.{inl, inr, ◌≢◌}
 use mathlib.Core.List.{List, [], ◌∷◌, ◌++◌}
 use Prim.Native.Nat.{ℕ, zero, suc, ◌≤◌, ◌<◌}
 use native.Mathlib.Omega.{arith}
-use lib.ListN.{length}
 use Rattle.rule.specs.declared.Book.{Book}
 use Rattle.rule.specs.declared.Reason.{Reason}
-use Rattle.rule.specs.declared.Reason.TheVariants.{Body, SameBody, Colour, Short, Unsound}
+use Rattle.rule.specs.declared.Reason.TheVariants.{Unsound}
 use Rattle.rule.specs.Sets.{In}
-use Rattle.rule.specs.Books.{ColourRange, HeadRule, EdgeRule, Obeys, Sound, FirstBad}
-use Rattle.rule.specs.Reasons.{Check, Pass, Fail, book_checks, circuit_room}
+use Rattle.rule.specs.Books.{HeadRule, EdgeRule, Obeys, Sound, FirstBad}
+use Rattle.rule.specs.Reasons.{Check, Pass, Fail, book_checks}
 use Rattle.rule.proofs.Determined.{first_bad_unsound}
 use Rattle.book.specs.declared.Checked.{Checked}
 use Rattle.book.specs.declared.Checked.TheVariants.{Fine, Refused}
-use Rattle.book.specs.Scan.{HeadFine, FirstEdge, Scanned}
-use Rattle.book.specs.Checks.{HoldsForests, FoundBy, edge_checks}
+use Rattle.book.specs.Scan.{HeadFine, Scanned}
+use Rattle.book.specs.Checks.{HoldsForests, FoundBy}
 
 -- ---- more checks behind
 

@@ -5,18 +5,14 @@ use mathlib.Core.Path.{◌≡◌, refl, sym, ap, ap₂, ◌∙◌, subst}
 use mathlib.Core.Logic.{◌≢◌}
 use mathlib.Core.Bool.{Bool, true, false, false≢true}
 use mathlib.Core.List.{List}
-use Prim.Native.Nat.{ℕ, zero, suc, ◌+◌, ◌*◌, ◌-◌, ◌≤◌, ◌<◌}
+use Prim.Native.Nat.{ℕ, zero, suc, ◌+◌, ◌*◌, ◌-◌, ◌≤◌}
 use native.Mathlib.Nat.{mul-le-mul}
 use native.Mathlib.Numerals.{add-one}
 use native.Mathlib.Omega.{arith}
 use lib.ListN.{get_or}
 use Rattle.rule.specs.declared.Book.{Book}
-use Rattle.rule.specs.declared.Reason.{Reason}
-use Rattle.rule.specs.declared.Figure.{Figure}
-use Rattle.rule.specs.declared.Judged.{Judged}
-use Rattle.rule.specs.declared.Verdict.{Verdict}
 use Rattle.rule.specs.declared.Verdict.TheVariants.{Tight, Loose, OverTight, OverLoose}
-use Rattle.rule.specs.Sets.{Is, isnt, ◌<?◌, Set, In, one_if, count, at}
+use Rattle.rule.specs.Sets.{isnt, ◌<?◌, Set, one_if, count, at}
 use Rattle.rule.specs.Figures.{freedom, dropped, verdict_on}
 use Rattle.rule.specs.Books.{design_of, forest_of, kept_of, Sound}
 use Rattle.rule.proofs.Tests.{same_test, is_false, lt_of, lt_is}
@@ -24,8 +20,6 @@ use Rattle.rule.proofs.Counting.{Agree, count_le, count_eq, count_none, count_al
 use Rattle.rule.proofs.Legality.{legal_size}
 use Rattle.theory.proofs.Legal.Kept.{kept_make, kept_has}
 use Rattle.theory.proofs.Legal.Sound.{sound_head, sound_legal}
-use Rattle.book.specs.declared.Checked.{Checked}
-use Rattle.book.specs.declared.Checked.TheVariants.{Fine, Refused}
 
 -- ---- counting
 

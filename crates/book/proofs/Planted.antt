@@ -4,10 +4,9 @@ use mathlib.Core.Path.{◌≡◌, refl, sym, ◌∙◌, subst}
 use mathlib.Core.Logic.{◌≢◌}
 use mathlib.Core.Bool.{Bool, true, false, false≢true}
 use mathlib.Core.List.{List}
-use Prim.Native.Nat.{ℕ, ◌≤◌}
+use Prim.Native.Nat.{ℕ}
 use native.Mathlib.Omega.{arith}
 use Rattle.rule.specs.Sets.{Is, ◌=?◌, In}
-use Rattle.rule.specs.Legal.{Design}
 use Rattle.rule.specs.Forests.{in_forest}
 use Rattle.rule.proofs.Tests.{eq_is, put_id}
 use Rattle.theory.specs.Joined.{joined}

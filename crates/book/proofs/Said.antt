@@ -2,20 +2,16 @@
 -- Assumes nothing.
 use mathlib.Core.Path.{◌≡◌, sym, ◌∙◌}
 use mathlib.Core.Logic.{◌↔◌}
-use mathlib.Core.Bool.{Bool, true, false, not, false≢true}
-use borrow.Author.Tests.{not-true, not-false}
+use mathlib.Core.Bool.{Bool, true, false, false≢true}
 use Rattle.rule.specs.Sets.{Is}
 
 module _ {P : Type 0} (r : Bool) (says : Is r ↔ P) where
-  pub said_no : r ≡ false → ¬ P
-  said_no h p = false≢true (sym h ∙ says.1 p)
-
   -- the branch of `if !r` that was taken, and the one that was left
-  pub refused : not r ≡ true → ¬ P
-  refused h = said_no (not-true r h)
+  pub refused : r ≡ false → ¬ P
+  refused h p = false≢true (sym h ∙ says.1 p)
 
-  pub granted : not r ≡ false → P
-  granted h = says.0 (not-false r h)
+  pub granted : r ≡ true → P
+  granted h = says.0 h
 
 -- the answer no is right where P does not hold
 pub no_answer : {P : Type 0} → ¬ P → (Is false ↔ P)

@@ -2,13 +2,12 @@
 -- obeys its rule exactly when its numbers are fine and its forest does not join its ends: the chains of smaller edges are the
 -- forest so far. So planting it goes on, or tells the first edge that breaks its rule.
 -- Assumes nothing.
-use mathlib.Core.Path.{◌≡◌, refl, sym, ap, ◌∙◌, subst}
-use mathlib.Core.Bool.{Bool, true, false, not, false≢true}
+use mathlib.Core.Path.{◌≡◌, refl, sym, ◌∙◌, subst}
+use mathlib.Core.Bool.{Bool, true, false, false≢true}
 use mathlib.Core.List.{List}
-use Prim.Native.Nat.{ℕ, zero, suc, ◌+◌, ◌≤◌, ◌<◌}
+use Prim.Native.Nat.{ℕ, suc, ◌+◌, ◌≤◌, ◌<◌}
 use native.Mathlib.Numerals.{add-one}
 use native.Mathlib.Omega.{arith}
-use borrow.Author.Tests.{not-true, not-false}
 use lib.ListN.{get_or}
 use Rattle.rule.specs.declared.Book.{Book}
 use Rattle.rule.specs.Sets.{Is, In, below, at}
@@ -20,11 +19,11 @@ use Rattle.theory.specs.Joined.{joined, spans}
 use Rattle.theory.proofs.Joined.Chains.{joined_chain, chain_joined}
 use Rattle.theory.proofs.Joined.Acyclic.{Acyclic, loopless_acyclic}
 use Rattle.theory.proofs.Legal.Kept.{forest_make}
-use Rattle.tables.specs.Tables.{label, filled, Tabled}
+use Rattle.tables.specs.Tables.{label, Tabled}
 use Rattle.planting.specs.Calls.{Sized}
 use Rattle.planting.proofs.Few.{room_left}
 use Rattle.labels.specs.Labels.{Begun}
-use Rattle.book.specs.Scan.{EdgeFine, Permits, Plantable, EdgePlanted, Cleared, FirstEdge, Scanned}
+use Rattle.book.specs.Scan.{EdgeFine, Plantable, EdgePlanted, Cleared, FirstEdge, Scanned}
 use Rattle.book.proofs.Edges.{permits_most}
 use Rattle.book.proofs.UpTo.{up_to, upto_past, upto_most, upto_stands, upto_below, below_upto, upto_more, tabled_none, tabled_all}
 
@@ -160,10 +159,10 @@ module _ (B : Book) (e : ℕ) (root way who edge size : List ℕ) (inv : Scannin
       module _ (root' way' who' edge' size' : List ℕ) (answer : Bool)
           (out : EdgePlanted (get_or B.ones e 0) (get_or B.others e 0) (get_or B.forests e 0) (e + 1) root way who edge size root' way' who' edge' size' answer) where
         -- the edge closes a loop: a chain of smaller edges of its forest joins its ends
-        pub stops : not answer ≡ true → Scanned B (e + 1) root' way' who' edge' size'
+        pub stops : answer ≡ false → Scanned B (e + 1) root' way' who' edge' size'
         unfolding at
         stops h =
-            let loop = out.closes (λ t. false≢true (sym (not-true answer h) ∙ t)) in
+            let loop = out.closes (λ t. false≢true (sym h ∙ t)) in
             breaks root' way' who' edge' size' out.sized
             (λ r.
             r.closes_none loop.0
@@ -178,10 +177,10 @@ module _ (B : Book) (e : ℕ) (root way who edge size : List ℕ) (inv : Scannin
             let new = p.tabled h (design_of B) so_far edge_next (upto_past (forest_of B) e (suc e) (omega arith)) refl refl inv.tabled in
             (subst (λ (g : ℕ → ℕ). Tabled (design_of B) g root' way' who' edge' size') (sym (upto_more (forest_of B) e)) new.0, new.1)
 
-        pub scanning_more : not answer ≡ false → Scanning B (e + 1) root' way' who' edge' size'
+        pub scanning_more : answer ≡ true → Scanning B (e + 1) root' way' who' edge' size'
         unfolding design_of at
         scanning_more h =
-            let new = more_tables (not-false answer h) in
+            let new = more_tables h in
             subst (λ (z : ℕ). Scanning B z root' way' who' edge' size') (sym (add-one e))
             (record {
               most = less;

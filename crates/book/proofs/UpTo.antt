@@ -1,19 +1,17 @@
 -- The forests of the first e edges of a design, the others standing nowhere: what the scan has built after e edges.
 -- Assumes nothing.
-use mathlib.Core.Path.{◌≡◌, refl, sym, ap, ◌∙◌, subst, fun_ext}
-use mathlib.Core.Logic.{◌≢◌}
+use mathlib.Core.Path.{◌≡◌, sym, ap, ◌∙◌, subst, fun_ext}
 use mathlib.Core.Bool.{Bool, cond}
 use mathlib.Core.List.{List}
 use Prim.Native.Nat.{ℕ, suc, ◌≤◌, ◌<◌}
 use native.Mathlib.Omega.{arith}
-use Rattle.rule.specs.Sets.{Is, ◌≤?◌, Set, In, put, below}
+use Rattle.rule.specs.Sets.{Is, ◌≤?◌, In, put, below}
 use Rattle.rule.specs.Legal.{Design}
 use Rattle.rule.specs.Forests.{in_forest}
 use Rattle.rule.proofs.Tests.{is_false, eq_of, le_of, le_is, by_eq, by_le, put_same, put_other, below_in, below_lt, below_make}
 use Rattle.rule.proofs.Counting.{Within}
 use Rattle.theory.proofs.Legal.Kept.{forest_make, forest_is}
-use Rattle.theory.specs.Joined.{joined}
-use Rattle.tables.specs.Tables.{word, filled, Tabled}
+use Rattle.tables.specs.Tables.{word, Tabled}
 use Rattle.tables.proofs.Agree.{tabled_agree}
 use Rattle.labels.specs.Labels.{Empty, Begun}
 use Rattle.labels.proofs.Single.{joined_none}

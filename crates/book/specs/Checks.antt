@@ -1,7 +1,6 @@
 -- What the checks answer, and what a call hands on when they refuse.
 use Rattle.std.specs.Prelude.{◌≢◌, List, [], ◌∷◌, ℕ}
 use Rattle.rule.specs.declared.Book.{Book}
-use Rattle.rule.specs.declared.Reason.{Reason}
 use Rattle.rule.specs.declared.Figure.{Figure}
 use Rattle.rule.specs.declared.Judged.{Judged}
 use Rattle.rule.specs.declared.Verdict.TheVariants.{Tight}

@@ -14,7 +14,7 @@ returns c =
     let count = c.args.count in (
       λ h.
           record {
-            ‹After-both_among› = granted _ c.both_among.ensures c.if-not-both_among.false;
+            profile = granted _ c.both_among.ensures c.if-not-both_among.false;
             bodies = granted _ c.among.ensures c.if-not-among.false;
             few = leb-true count 512 h;
           },

@@ -1,5 +1,4 @@
 -- `book::scan`: the invariant and each step are those of proofs/Scanning.antt.
-use Prim.Native.Nat.{◌-◌}
 use Rattle.rule.specs.declared.Book.{Book}
 use Rattle.book.specs.Scan.{scanned_book}
 use Rattle.book.proofs.Said.{refused, granted}

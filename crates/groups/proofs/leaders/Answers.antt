@@ -1,5 +1,5 @@
 -- `groups::leaders`: the list is filled body by body (Listing.antt) with the lowest bit of the class (Crowds.antt).
-use Prim.Native.Nat.{◌+◌, ◌-◌}
+use Prim.Native.Nat.{◌+◌}
 use native.Mathlib.Omega.{arith}
 use Rattle.groups.proofs.Crowds.{class_not_empty, class_leads}
 use Rattle.groups.proofs.Listing.{listing_none, listing_more, listing_all}

@@ -10,17 +10,21 @@ use Rattle.groups.proofs.list_groups.Goals as goal
 
 pub classes-requires : goal.classes-requires
 classes-requires c =
-    let forests_long : length c.args.t1.forests ≡ 512 =
+    let forests_long : length c.args.book.forests ≡ 512 =
     search rules in
-    let book = c.args.t1 in
+    let book = c.args.book in
     let sound = c.requires.0 in
-    let few : c.wide.result + c.wide.result ≤ 6 =
-    omega (arith, forests_few book sound, c.wide.ensures, c.wide.ensures) in
+    let few : c.wide-a.result + c.wide.result ≤ 6 =
+    omega (arith, forests_few book sound, c.wide-a.ensures, c.wide.ensures) in
     let bodies : c.wide-n.result ≤ 64 = omega (arith, (sound_head book sound).bodies.high, c.wide-n.ensures) in
-    (book_given book sound, ((omega (arith, few), (few, few)), (forests_long, (bodies, omega (arith, c.requires.1, bodies)))))
+    record {
+      groups_given = book_given book sound;
+      red_bound = (few, (few, few));
+      forests_len = (forests_long, (bodies, omega (arith, c.requires.1, bodies)));
+    }
 
 pub returns : goal.returns
 returns c =
-    classes_grouped c.args.t1 c.requires.0 c.args.list.now c.classes.new.list c.requires.1
-    (c.wide.result + c.wide.result) c.wide-n.result
-    (ap₂ (λ (x y : ℕ). x + y) c.wide.ensures c.wide.ensures) c.wide-n.ensures c.classes.ensures
+    classes_grouped c.args.book c.requires.0 c.args.list.now c.classes.new.list c.requires.1
+    (c.wide-a.result + c.wide.result) c.wide-n.result
+    (ap₂ (λ (x y : ℕ). x + y) c.wide-a.ensures c.wide.ensures) c.wide-n.ensures c.classes.ensures

@@ -1,6 +1,5 @@
 -- `groups::plant`: the edges that are left are planted one by one (Planting.antt).
 use mathlib.Core.Path.{sym, ◌∙◌}
-use Prim.Native.Nat.{◌-◌}
 use native.Mathlib.Omega.{arith}
 use Rattle.groups.proofs.Planting.{Read, grows_none, grows_past, grows_ready, grows_more, grows_all}
 use Rattle.groups.proofs.plant.Goals as goal

@@ -1,17 +1,13 @@
 use mathlib.Core.Path.{◌≡◌, sym, ◌∙◌, subst}
 use mathlib.Core.Bool.{false, false≢true}
-use Prim.Native.Nat.{ℕ, ◌+◌, ◌-◌}
+use Prim.Native.Nat.{ℕ, ◌+◌}
 use native.Mathlib.Numerals.{add-one}
-use borrow.Author.Tests.{not-true, not-false}
 use Rattle.rule.proofs.Tests.{is_false}
 use Rattle.tables.specs.Tables.{label}
 use Rattle.rule.specs.Sets.{Is, ◌=?◌}
 use Rattle.groups.specs.Passes.{same_labels}
 use Rattle.groups.proofs.Reading.{same_none, same_more, same_at}
 use native.Mathlib.Omega.{arith}
-use Rattle.groups.proofs.same_labels.Reads as reads
-use Rattle.groups.proofs.same_labels.Lts as lts
-use Rattle.tables.proofs.joined.Reads as joined_reads
 use Rattle.groups.proofs.same_labels.Goals as goal
 
 -- src/lib.rt:13:5
@@ -24,7 +20,7 @@ returns-then-not-joined c =
     let i = c.loop-i.i in
     let root = c.args.root.now in
     let apart : (label root (i + 1) c.args.u =? label root (i + 1) c.args.v) ≡ false =
-    sym c.joined.ensures ∙ not-true _ c.if-not-joined.true in
+    sym c.joined.ensures ∙ c.if-not-joined.true in
     sym (is_false _ (λ h. false≢true (sym apart ∙ same_at root c.args.u c.args.v c.args.j (i + 1) (omega arith) h)))
 
 -- src/lib.rt:13:5
@@ -32,7 +28,7 @@ pub loop-i-preserved : goal.loop-i-preserved
 loop-i-preserved c =
     let root = c.args.root.now in
     let joined : Is (label root (c.loop-i.i + 1) c.args.u =? label root (c.loop-i.i + 1) c.args.v) =
-    sym c.joined.ensures ∙ not-false _ c.if-not-joined.false in (
+    sym c.joined.ensures ∙ c.if-not-joined.false in (
       omega arith,
       subst (λ (z : ℕ). Is (same_labels root z c.args.u c.args.v)) (sym (add-one c.loop-i.i))
           (same_more root c.args.u c.args.v c.loop-i.i c.loop-i.invariant.1

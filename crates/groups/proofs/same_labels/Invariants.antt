@@ -2,9 +2,6 @@
 use Prim.Native.Nat.{◌≤◌, ◌-◌}
 use Rattle.rule.specs.Sets.{Is}
 use Rattle.groups.specs.Passes.{same_labels}
-use Rattle.groups.proofs.same_labels.Reads as reads
-use Rattle.groups.proofs.same_labels.Lts as lts
-use Rattle.tables.proofs.joined.Reads as joined_reads
 use Rattle.groups.proofs.same_labels.Given as goal
 
 abbrev pub invariant-loop-i : goal.invariant-loop-i

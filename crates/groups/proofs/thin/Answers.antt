@@ -1,9 +1,8 @@
 -- `groups::thin`: the edges are judged one by one (Judging.antt), all by the same labels.
 use mathlib.Core.Path.{sym, ◌∙◌}
 use mathlib.Core.Bool.{false≢true}
-use Prim.Native.Nat.{suc, ◌-◌}
+use Prim.Native.Nat.{suc}
 use native.Mathlib.Omega.{arith}
-use borrow.Author.Tests.{not-true, not-false}
 use Rattle.groups.proofs.Judging.{judged_none, judged_few, judged_all, judged_stays, judged_empty, judged_gone}
 use Rattle.groups.proofs.thin.Goals as goal
 
@@ -13,8 +12,7 @@ loop-e-init c = (omega arith, judged_none)
 pub remains-requires : goal.remains-requires
 remains-requires c =
     let e = c.loop-e.e in
-    let ends = c.requires.count_bound.1 (suc e) (omega arith) in
-    ((omega arith, c.requires.red_bound), ends)
+    record { e_bound = (omega arith, c.requires.red_bound); fact = c.requires.by_index (suc e) (omega arith) }
 
 pub overflow_add-gone : goal.overflow_add-gone
 overflow_add-gone c =
@@ -22,14 +20,14 @@ overflow_add-gone c =
 
 pub loop-e-preserved-then-not-remains : goal.loop-e-preserved-then-not-remains
 loop-e-preserved-then-not-remains c =
-    let goes = sym c.remains.ensures ∙ not-true _ c.if-not-remains.true in (
+    let goes = sym c.remains.ensures ∙ c.if-not-remains.true in (
       omega arith,
       judged_gone c.loop-e.invariant.1 (omega arith) c.if-left-i-ne0.true (λ h. false≢true (sym goes ∙ h)),
     )
 
 pub loop-e-preserved-else-not-remains : goal.loop-e-preserved-else-not-remains
 loop-e-preserved-else-not-remains c =
-    (omega arith, judged_stays c.loop-e.invariant.1 (sym c.remains.ensures ∙ not-false _ c.if-not-remains.false))
+    (omega arith, judged_stays c.loop-e.invariant.1 (sym c.remains.ensures ∙ c.if-not-remains.false))
 
 pub loop-e-preserved : goal.loop-e-preserved
 loop-e-preserved c =
