@@ -7,7 +7,6 @@ use mathlib.Core.List.{List}
 use Prim.Native.Nat.{ℕ, ◌+◌}
 use lib.ListN.{length, take, drop}
 use denote.Ref.{Bor}
-use Rattle.rule.specs.Books.{Edge}
 use Rattle.text.specs.declared.Judgement.{Judgement}
 use Rattle.text.specs.Sheets.{Sheet, SheetRange, text_of}
 use Rattle.text.specs.Faults.{Fault, FirstFault}

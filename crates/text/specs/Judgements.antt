@@ -4,7 +4,6 @@
 -- (specs/EdgeLists.antt).
 use Rattle.std.specs.Prelude.{◌≡◌, ◌⊎◌, List, [], ℕ, ◌+◌, ◌≤◌, length, take, drop}
 use Rattle.std.specs.Borrow.{Bor}
-use Rattle.rule.specs.Books.{Edge}
 use Rattle.rule.specs.declared.Reason.{Reason}
 use Rattle.text.specs.declared.Judgement.{Judgement}
 use Rattle.text.specs.Sheets.{Sheet, SheetRange, text_of}

@@ -1,7 +1,6 @@
 -- `text::begins` meets its contract: its loop keeps `Matched`, of proofs/Keys.antt. Assumes nothing.
 use native.Mathlib.Omega.{arith}
 use mathlib.Core.Path.{sym}
-use Prim.Native.Nat.{◌-◌}
 use Rattle.rule.proofs.Tests.{is_false}
 use Rattle.text.proofs.Keys.{begins_long, matched_none, matched_more, matched_stop, matched_all}
 use Rattle.text.proofs.begins.Goals as goal

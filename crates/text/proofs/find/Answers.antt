@@ -24,9 +24,9 @@ by_why : {r : Numbered} {w reason : Reason} {s : List ℕ} {before after : EdgeL
     → RefusedAt s reason line → Enters s before after (Judgement.Refused w line)
 by_why {s = s} {line = line} e q f = enters_refused (subst (λ (x : Reason). RefusedAt s x line) (sym (e ∙ ap reason_of q)) f)
 
-pub returns : goal.returns
-returns c =
-    let e = c.enum_told.given.1 in
+pub returns-in_default : goal.returns-in_default
+returns-in_default c =
+    let e = c.in_default.is in
     by_why c.why.ensures e (fault_a _ stands_first (sym c.number_in-one.ensures ∙ e))
 
 pub returns-in_default-two : goal.returns-in_default-two

@@ -6,12 +6,12 @@ use Rattle.text.proofs.Picks.{pick_true, pick_false}
 use Rattle.text.proofs.Keys.{begins_at_within}
 use Rattle.text.proofs.key_at.Goals as goal
 
-add_t8 : tie.Need-overflow-add-t8
-add_t8 c = omega (arith, begins_at_within _ _ _ (sym c.before.begins-at.ensures ∙ c.if1.true))
+pub overflow_add-result : goal.overflow_add-result
+overflow_add-result c = omega (arith, begins_at_within _ _ _ (sym c.begins_at.ensures ∙ c.if-begins_at.true))
 
-pub returns : goal.returns
+pub returns-then-begins_at : goal.returns-then-begins_at
 unfolding read_key
-returns c = sym (pick_true _ _ _ c.begins_at.ensures c.if-begins_at.true)
+returns-then-begins_at c = sym (pick_true _ _ _ c.begins_at.ensures c.if-begins_at.true)
 
 pub overflow_add-result-then-begins_at-2 : goal.overflow_add-result-then-begins_at-2
 overflow_add-result-then-begins_at-2 c = omega (arith, begins_at_within _ _ _ (sym c.begins_at-2.ensures ∙ c.if-begins_at-2.true))

@@ -1,5 +1,4 @@
 -- `text::line_end` meets its contract: its loop keeps `Ending`, of proofs/LineEnds.antt. Assumes nothing.
-use Prim.Native.Nat.{◌-◌}
 use Rattle.text.proofs.LineEnds.{ending_none, ending_more, ending_lf, ending_all}
 use Rattle.text.proofs.line_end.Goals as goal
 

@@ -1,6 +1,5 @@
 -- `text::line_start` meets its contract: its loop stands where line i begins (`Reached`, proofs/LineStarts.antt). Assumes nothing.
 use borrow.Author.Rules.{rules}
-use Prim.Native.Nat.{◌-◌}
 use Rattle.text.proofs.LineStarts.{reached_first, reached_next, reached_all}
 use Rattle.text.proofs.line_start.Goals as goal
 

@@ -1,7 +1,6 @@
 -- `text::number` meets its contract: its loop keeps `Turned`, of proofs/Scans.antt. Assumes nothing.
 use native.Mathlib.Omega.{arith}
 use mathlib.Core.Path.{sym, ap, ◌∙◌}
-use Prim.Native.Nat.{◌-◌}
 use Rattle.text.specs.Readings.{digit_of, read_number}
 use Rattle.text.proofs.Picks.{pick_eq}
 use Rattle.text.proofs.Scans.{turned_none, turned_more, turned_stop, turned_all, turned_fits}

@@ -1,6 +1,5 @@
 -- `text::walk` meets its contract: its loop keeps `Walked`, of proofs/Walks.antt. Assumes nothing.
 use mathlib.Core.Path.{sym, ◌∙◌}
-use Prim.Native.Nat.{◌-◌}
 use Rattle.text.proofs.Lists.{enters_refused}
 use Rattle.text.proofs.Walks.{walked_none, walked_room, walked_on, walked_fault, walked_extra, walked_whole}
 use Rattle.text.proofs.walk.Goals as goal

@@ -1,5 +1,4 @@
 -- `text::put::bytes` meets its contract: its loop keeps `Copied`, of proofs/Overwrites.antt. Assumes nothing.
-use Prim.Native.Nat.{◌-◌}
 use Rattle.text.proofs.Overwrites.{copied_none, copied_room, copied_more, copied_all, copied_length}
 use Rattle.text.proofs.put.bytes.Goals as goal
 

@@ -27,7 +27,9 @@ slice_bounds-number-count c =
     omega (arith, c.bytes-end.ensures.number, writes_length c.bytes-end.ensures (omega (arith, c.requires, fits)), c.requires, fits)
 
 pub slice_bounds-number-start : goal.slice_bounds-number-start
-slice_bounds-number-start c = sub_number ‹After-slice_known2›
+slice_bounds-number-start c =
+    let fits = key_within c.args.key.now c.args.n in
+    omega (arith, c.bytes-end.ensures.number, writes_length c.bytes-end.ensures (omega (arith, c.requires, fits)), c.requires, fits)
 
 pub number-more-requires : goal.number-more-requires
 number-more-requires c =
