@@ -3,6 +3,7 @@
 
 use pager::Kind;
 
-fn main() {
-    printing::print(Kind::Certificate);
+fn main(rt: HostRuntime) {
+    let mut input = rt.stdin();
+    printing::print(Kind::Certificate, &mut input);
 }

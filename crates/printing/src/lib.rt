@@ -14,6 +14,7 @@ ghost use Rattle.printing.specs.Sending.{Sendable, Sends, BeforeTurn, TurnSent, 
 pub use output::Sent;
 use pager::Kind;
 use reports::{Line, State};
+use std::io::Read;
 
 // ---- the input
 
@@ -25,16 +26,15 @@ pub enum Input {
 }
 
 // Reads until the buffer is full or the input ends. A read that fails is told from the end of the input, which io::read_full does not do.
-fn read_input(input: &mut [u8]) -> Input
+fn read_input<R: Read>(reader: &mut R, input: &mut [u8]) -> Input
     ensures { Got result input.new }
 {
     let mut done: usize = 0;
     while done < input.len() {
-        let got = libc::read(0, &mut input[done..]);
-        if got < 0 {
+        let got = reader.read(&mut input[done..]);
+        let Ok(more) = got else {
             return Input::Failed;
-        }
-        let more = io::count(got, &input[done..]);
+        };
         if more == 0 {
             return Input::Bytes(done);
         }
@@ -133,11 +133,11 @@ fn send_input(kind: Kind, got: Input, input: &[u8]) -> Sent
     }
 }
 
-// What a program does.
-pub fn print(kind: Kind) -> Sent
+// What a program does. The input is whatever a reader gives: standard input, in the programs.
+pub fn print<R: Read>(kind: Kind, reader: &mut R) -> Sent
     ensures { Printed kind result }
 {
     let mut input = [0u8; 8192];
-    let got = read_input(&mut input);
+    let got = read_input(reader, &mut input);
     send_input(kind, got, &input)
 }

@@ -3,7 +3,7 @@ use borrow.Author.Rules.{rules}
 use Rattle.printing.proofs.print.Goals as goal
 
 pub returns : goal.returns
-returns c =
+returns g c =
     record {
       got = c.read_input-got.result;
       buffer = c.read_input-got.new.input;
