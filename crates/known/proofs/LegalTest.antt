@@ -10,7 +10,7 @@ use mathlib.Core.Path.{ap, ap₂, ◌∙◌, subst₂}
 use mathlib.Core.Bool.{Bool}
 use mathlib.Core.List.{List}
 use Prim.Native.Nat.{ℕ, ◌*◌, ◌-◌, ◌≤◌}
-use Rattle.rule.specs.Sets.{◌and◌, ◌or◌, isnt, ◌≤?◌, Set, In, ◌with◌, ◌without◌, count, numbers}
+use Rattle.rule.specs.Sets.{◌and◌, ◌or◌, isnt, ◌≤?◌, Set, ◌with◌, ◌without◌, count, numbers}
 use Rattle.rule.specs.Legal.{Design, Ends, inside, Sparse, first_part, second_part, Legal, InCircuit, Circuit}
 use Rattle.rule.proofs.Counting.{Agree, count_eq}
 use Rattle.rule.proofs.Legality.{sparse_sub}

@@ -1,14 +1,14 @@
 -- One edge more in forest f, between u and v, which stood in two trees: the labels after the tree of u has taken the label of v.
 -- Read off Trees.antt, body x standing at place x - 1 of the forest's row.
 -- Assumes nothing.
-use mathlib.Core.Path.{◌≡◌, refl, sym, ap, ap₂, ◌∙◌, subst₂, subst₃}
-use mathlib.Core.Logic.{◌⊎◌, inl, inr, ⊎_elim, ◌≢◌}
+use mathlib.Core.Path.{◌≡◌, sym, ap, ap₂, ◌∙◌, subst₂, subst₃}
+use mathlib.Core.Logic.{◌⊎◌, inl, inr, ⊎_elim}
 use mathlib.Core.Bool.{Bool, cond}
 use mathlib.Core.List.{List}
 use Prim.Native.Nat.{ℕ, ◌+◌, ◌-◌, ◌<◌}
 use native.Mathlib.Omega.{arith}
 use lib.Bits.{bit_or}
-use lib.ListN.{length, get_or, set, length-set}
+use lib.ListN.{get_or, set, length-set}
 use lib.Seq.{get_or-set_same, get_or-set_other}
 use Rattle.rule.specs.Sets.{Is, ◌or◌, Set, In, ◌with◌}
 use Rattle.rule.specs.Legal.{Design}
@@ -22,7 +22,7 @@ use Rattle.words.proofs.Bits.{bit_or_lem}
 use Rattle.tables.specs.Tables.{start, spot, label, crowd, Labels}
 use Rattle.labels.specs.Rows.{Long, Applied}
 use Rattle.labels.specs.Labels.{ReadyToUnite, Tree, United}
-use Rattle.labels.proofs.Trees.{Named, Renamed, named_renamed}
+use Rattle.labels.proofs.Trees.{Renamed, named_renamed}
 
 -- e links u and v
 abbrev pub Links : Design → Set → (e u v : ℕ) → Type 0

@@ -2,7 +2,6 @@
 -- each: what is done so far is applied at the bits that the word had and has no more.
 -- Assumes nothing.
 use mathlib.Core.Path.{◌≡◌, refl, sym, ap, ◌∙◌, subst}
-use mathlib.Core.Logic.{◌≢◌}
 use mathlib.Core.Bool.{Bool, true, cond, false≢true}
 use mathlib.Core.List.{List}
 use Prim.Native.Nat.{ℕ, ◌+◌, ◌≤◌, ◌<◌}
@@ -10,10 +9,10 @@ use native.Mathlib.Omega.{arith}
 use lib.ListN.{length, get_or, set, length-set}
 use lib.Seq.{get_or-set_same, get_or-set_other}
 use Rattle.rule.specs.Sets.{Is, ◌and◌, isnt, ◌=?◌, Set, ◌with◌}
-use Rattle.rule.proofs.Tests.{same_test, is_false, and_make, and_l, and_r, isnt_make, isnt_not, eq_of, eq_is, by_eq, put_same, put_other, with_old, with_self, with_elim}
+use Rattle.rule.proofs.Tests.{same_test, is_false, and_make, and_l, and_r, isnt_make, isnt_not, eq_of, eq_is, by_eq, put_same, put_other, with_old, with_self}
 use Rattle.words.specs.Bits.{bit, Lowest, Without}
 use Rattle.words.proofs.Bits.{bit_zero}
-use Rattle.labels.specs.Rows.{Outside, Applied}
+use Rattle.labels.specs.Rows.{Applied}
 
 module _ (g : ℕ → ℕ) (base : ℕ) where
   pub applied_none : (p : Set) (list : List ℕ) → ((t : ℕ) → t < 64 → ¬ (Is (p t))) → Applied g base p list list

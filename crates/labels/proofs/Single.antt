@@ -4,7 +4,7 @@ use mathlib.Core.Path.{◌≡◌, refl, sym, ap, ap₂, ◌∙◌, subst}
 use mathlib.Core.List.{List}
 use Prim.Native.Nat.{ℕ, ◌+◌, ◌-◌, ◌%◌, ◌^◌, ◌≤◌, ◌<◌}
 use native.Mathlib.Omega.{arith}
-use lib.ListN.{length, get_or, set, length-set}
+use lib.ListN.{length, get_or, set}
 use lib.Seq.{get_or-set_same, get_or-set_other}
 use Rattle.rule.specs.Sets.{Is, ◌=?◌, Set, In}
 use Rattle.rule.specs.Legal.{Design}
@@ -13,9 +13,9 @@ use Rattle.theory.specs.Joined.{joined}
 use Rattle.theory.proofs.Joined.Laws.{joined_refl, joined_least}
 use Rattle.words.specs.Bits.{bit}
 use Rattle.words.proofs.Bits.{bit_power}
-use Rattle.tables.specs.Tables.{start, spot, label, crowd, Labels}
+use Rattle.tables.specs.Tables.{start, label, crowd, Labels}
 use Rattle.labels.specs.Rows.{Long}
-use Rattle.labels.specs.Labels.{Empty, Begun}
+use Rattle.labels.specs.Labels.{Empty}
 
 pub joined_none : (d : Design) (s : Set) → Empty d s → (x y : ℕ) → joined d s x y ≡ (x =? y)
 joined_none d s none x y =

@@ -3,7 +3,7 @@
 -- The bodies near u take the name of v, and the word at that name gets the bodies of both trees. From a body of either tree `far`
 -- reaches just the bodies of both; from any other body it reaches what `near` does.
 -- Assumes nothing.
-use mathlib.Core.Path.{◌≡◌, refl, sym, ap, ap₂, ◌∙◌, subst}
+use mathlib.Core.Path.{◌≡◌, sym, ap, ap₂, ◌∙◌, subst}
 use mathlib.Core.Logic.{◌⊎◌, inl, inr, ⊎_elim, ◌≢◌}
 use mathlib.Core.Bool.{Bool, cond}
 use Prim.Native.Nat.{ℕ, ◌-◌, ◌<◌}

@@ -1,5 +1,5 @@
 -- What the calls on labels promise, for every design and every set of its edges.
-use Rattle.std.specs.Prelude.{◌≡◌, ◌⊎◌, List, ℕ, ◌-◌, ◌<◌, length, get_or}
+use Rattle.std.specs.Prelude.{◌≡◌, ◌⊎◌, List, ℕ, ◌-◌, ◌<◌, get_or}
 use Rattle.rule.specs.Sets.{Is, Set, In, ◌with◌}
 use Rattle.rule.specs.Legal.{Design}
 use Rattle.theory.specs.Joined.{joined}

@@ -5,26 +5,25 @@ use mathlib.Core.Path.{◌≡◌, refl, sym, ap, ap₂, ◌∙◌, subst, subst�
 use mathlib.Core.Logic.{◌⊎◌, ◌≢◌}
 use mathlib.Core.Bool.{Bool, true, false}
 use mathlib.Core.List.{List}
-use Prim.Native.Nat.{ℕ, suc, ◌+◌, ◌-◌, ◌^◌, ◌≤◌, ◌<◌}
+use Prim.Native.Nat.{ℕ, ◌+◌, ◌-◌, ◌^◌, ◌≤◌, ◌<◌}
 use native.Mathlib.Omega.{arith}
 use lib.Bits.{bit_xor}
-use lib.ListN.{get_or, set, length-set}
+use lib.ListN.{set, length-set}
 use lib.Seq.{get_or-set_same, get_or-set_other}
 use Rattle.rule.specs.Sets.{Is, isnt, ◌=?◌, Set, In, put, ◌with◌}
 use Rattle.rule.specs.Legal.{Design}
 use Rattle.rule.specs.Forests.{in_forest}
-use Rattle.rule.proofs.Tests.{same_test, is_false, isnt_make, isnt_not, eq_of, eq_is, eq_self, by_eq, by_le, put_same, put_other, put_id}
+use Rattle.rule.proofs.Tests.{same_test, is_false, isnt_make, isnt_not, eq_of, eq_is, eq_self, by_eq, put_same, put_other, put_id}
 use Rattle.theory.specs.Joined.{joined, spans}
-use Rattle.theory.proofs.Legal.Kept.{forest_make, forest_is, forest_put}
+use Rattle.theory.proofs.Legal.Kept.{forest_is, forest_put}
 use Rattle.words.specs.Bits.{bit}
 use Rattle.words.proofs.Bits.{◌differs◌}
 use Rattle.words.proofs.Differs.{differs_comm, differs_self, false_differs}
 use Rattle.tables.specs.Tables.{start, word, slot, filled, Slots, Labels, Ways, Tabled}
-use Rattle.labels.specs.Rows.{Long, Applied}
+use Rattle.labels.specs.Rows.{Applied}
 use Rattle.labels.specs.Labels.{United}
 use Rattle.labels.proofs.Carried.{SameRow, other_row}
 use Rattle.planting.specs.Calls.{Sized, Addable, Added}
-use Rattle.planting.proofs.Between.{between}
 use Rattle.planting.proofs.Larger.{parted, between_new, between_old, between_parted}
 use Rattle.planting.proofs.Tells.{Tells, tells_same, between_none, changed, Near, tells_more}
 use Rattle.planting.proofs.Seats.{seated, seated_none, bits, ways_tell, tell_ways, Reseated, reseated, seated_new, seated_old, seated_other, slots_else, ways_else, labels_else}

@@ -3,10 +3,10 @@
 -- Then z is an edge of s, and p and q hang at its two ends (`crossing`). So of two pairs of bodies that z is between, all stand in one
 -- tree (`not_both`). Without an edge z of a loop-free set a tree falls into two parts, not three (`two_parts`).
 -- Assumes nothing.
-use mathlib.Core.Path.{◌≡◌, refl, sym, ap, ◌∙◌, subst}
-use mathlib.Core.Logic.{◌⊎◌, inl, inr, ⊎_elim, ◌≢◌}
+use mathlib.Core.Path.{◌≡◌, ap, subst}
+use mathlib.Core.Logic.{⊎_elim}
 use mathlib.Core.Bool.{Bool}
-use Prim.Native.Nat.{ℕ, ◌≤◌}
+use Prim.Native.Nat.{ℕ}
 use Rattle.rule.specs.Sets.{Is, ◌and◌, isnt, ◌≤?◌, Set, In, ◌with◌, ◌without◌}
 use Rattle.rule.specs.Legal.{Design}
 use Rattle.rule.proofs.Tests.{cases, same_test, and_make, and_l, and_r, isnt_make, isnt_not, not_isnt, le_of, le_is, without_old, without_make}

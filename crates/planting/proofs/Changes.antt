@@ -1,13 +1,13 @@
 -- How the bits of the words change: by the bits of a constant, at the bodies that were chosen. The constant is the path between two
 -- bodies, as their words give it, with one bit turned.
 -- Assumes nothing.
-use mathlib.Core.Path.{◌≡◌, refl, sym, ap, ap₂, ◌∙◌}
+use mathlib.Core.Path.{◌≡◌, sym, ap, ap₂, ◌∙◌}
 use mathlib.Core.Bool.{Bool, true, false, cond}
 use mathlib.Core.List.{List}
 use Prim.Native.Nat.{ℕ, ◌-◌, ◌^◌}
 use native.Mathlib.Omega.{arith}
 use lib.Bits.{bit_xor}
-use Rattle.rule.specs.Sets.{◌and◌, ◌=?◌, Set, In}
+use Rattle.rule.specs.Sets.{◌and◌, ◌=?◌, In}
 use Rattle.words.specs.Bits.{bit}
 use Rattle.words.proofs.Bits.{◌differs◌, bit_xor_lem, bit_power}
 use Rattle.words.proofs.Differs.{differs_comm, false_differs}

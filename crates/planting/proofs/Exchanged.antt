@@ -4,13 +4,13 @@
 -- for without z the swap changes nothing that is joined. An edge z on the path of x is between p and q afterwards exactly when
 -- one of y and z was, and not the other: without both, the tree has three parts, and x joins the two outer ones.
 -- Assumes nothing.
-use mathlib.Core.Path.{◌≡◌, refl, sym, ap, ap₂, ◌∙◌, subst}
+use mathlib.Core.Path.{◌≡◌, refl, sym, ap, ◌∙◌}
 use mathlib.Core.Logic.{◌⊎◌, inl, inr, ⊎_elim, ◌≢◌}
 use mathlib.Core.Bool.{Bool, true, false, false≢true}
 use Prim.Native.Nat.{ℕ}
-use Rattle.rule.specs.Sets.{Is, ◌and◌, isnt, Set, In, put, ◌with◌, ◌without◌}
+use Rattle.rule.specs.Sets.{Is, ◌and◌, isnt, Set, In, ◌with◌, ◌without◌}
 use Rattle.rule.specs.Legal.{Design}
-use Rattle.rule.proofs.Tests.{cases, same_test, is_false, and_make, and_l, and_r, isnt_make, isnt_not, put_id, put_put, put_comm, put_other, with_self, with_old, without_old, without_make, without_ne}
+use Rattle.rule.proofs.Tests.{cases, same_test, is_false, and_make, and_l, and_r, isnt_make, isnt_not, put_id, put_put, put_comm, with_self, with_old, without_old, without_make, without_ne}
 use Rattle.theory.specs.Joined.{joined, spans}
 use Rattle.theory.proofs.Joined.Laws.{joined_sym, joined_trans, joined_mono, joined_split, spans_edge, swap_same}
 use Rattle.theory.proofs.Joined.Acyclic.{Acyclic, both_deleted_at}

@@ -5,12 +5,12 @@
 -- just one of them and its end, for it stands in one tree.
 -- Assumes nothing.
 use mathlib.Core.Path.{◌≡◌, refl, sym, ap, ◌∙◌, subst}
-use mathlib.Core.Logic.{◌⊎◌, inl, inr, ⊎_elim, ◌≢◌}
+use mathlib.Core.Logic.{⊎_elim, ◌≢◌}
 use mathlib.Core.Bool.{Bool, true, false, false≢true}
 use Prim.Native.Nat.{ℕ}
-use Rattle.rule.specs.Sets.{Is, isnt, Set, In, put, ◌with◌, ◌without◌}
+use Rattle.rule.specs.Sets.{Is, isnt, Set, In, ◌with◌, ◌without◌}
 use Rattle.rule.specs.Legal.{Design}
-use Rattle.rule.proofs.Tests.{cases, same_test, is_false, put_id, put_put, put_comm, with_self, with_old, without_old}
+use Rattle.rule.proofs.Tests.{same_test, is_false, put_id, put_put, put_comm, with_self, with_old, without_old}
 use Rattle.theory.specs.Joined.{joined, spans}
 use Rattle.theory.proofs.Joined.Laws.{joined_sym, joined_trans, joined_mono, joined_split, spans_edge, turned_at}
 use Rattle.words.proofs.Bits.{◌differs◌}

@@ -1,13 +1,12 @@
 -- A loop over the 64 places of a row that applies g at each: what is done so far is applied at the places below t.
 -- Assumes nothing.
-use mathlib.Core.Path.{◌≡◌, refl, sym, ap, ◌∙◌}
-use mathlib.Core.Logic.{◌≢◌}
+use mathlib.Core.Path.{◌≡◌, sym, ap, ◌∙◌}
 use mathlib.Core.Bool.{true}
 use mathlib.Core.List.{List}
-use Prim.Native.Nat.{ℕ, suc, ◌+◌, ◌≤◌, ◌<◌}
+use Prim.Native.Nat.{ℕ, ◌+◌, ◌≤◌, ◌<◌}
 use native.Mathlib.Omega.{arith}
 use lib.ListN.{length, get_or, set}
-use Rattle.rule.specs.Sets.{Is, ◌<?◌, Set, ◌with◌}
+use Rattle.rule.specs.Sets.{◌<?◌, ◌with◌}
 use Rattle.rule.proofs.Tests.{same_test, lt_of, lt_is, by_eq, put_other, put_same}
 use Rattle.labels.specs.Rows.{Applied}
 use Rattle.labels.proofs.Rows.{applied_none, applied_agree, applied_more}

@@ -1,8 +1,8 @@
 -- The tables after edge x has taken the place of edge y in forest f, y being on the path of x: the forest joins what it joined, so labels
 -- stay; x has the slot of y; the words of the bodies on one side of y have changed by the path of x. The other forests are as they were.
 -- Assumes nothing.
-use mathlib.Core.Path.{◌≡◌, refl, sym, ap, ap₂, ◌∙◌, subst, subst₂}
-use mathlib.Core.Logic.{◌⊎◌, ⊎_elim, ◌≢◌}
+use mathlib.Core.Path.{◌≡◌, refl, sym, ap, ◌∙◌, subst, subst₂}
+use mathlib.Core.Logic.{⊎_elim, ◌≢◌}
 use mathlib.Core.Bool.{Bool, true, false, false≢true}
 use mathlib.Core.List.{List}
 use Prim.Native.Nat.{ℕ, ◌+◌, ◌^◌, ◌≤◌, ◌<◌}
@@ -20,7 +20,6 @@ use Rattle.theory.proofs.Joined.Laws.{swap_same}
 use Rattle.theory.proofs.Joined.Acyclic.{loopless_acyclic}
 use Rattle.theory.proofs.Legal.Kept.{forest_make, forest_is}
 use Rattle.theory.proofs.Exchange.Step.{path_spans, path_needs, path_edge, forest_swapped, forest_kept}
-use Rattle.words.specs.Bits.{bit}
 use Rattle.words.proofs.Bits.{◌differs◌}
 use Rattle.words.proofs.Differs.{differs_comm, differs_self, false_differs}
 use Rattle.tables.specs.Tables.{start, word, slot, filled, Slots, Labels, Ways, Tabled}

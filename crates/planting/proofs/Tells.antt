@@ -3,12 +3,12 @@
 --
 -- In order: tests that tell 0; a test changed by c at the bodies of another test; one edge more; one edge for another.
 -- Assumes nothing.
-use mathlib.Core.Path.{◌≡◌, refl, sym, ap, ap₂, ◌∙◌, subst}
+use mathlib.Core.Path.{◌≡◌, refl, sym, ap, ap₂, ◌∙◌}
 use mathlib.Core.Logic.{◌⊎◌, ⊎_elim, ◌≢◌}
 use mathlib.Core.Bool.{Bool, true, false}
-use Prim.Native.Nat.{ℕ, ◌≤◌}
+use Prim.Native.Nat.{ℕ}
 use native.Mathlib.Omega.{arith}
-use Rattle.rule.specs.Sets.{Is, ◌and◌, isnt, Set, In, ◌with◌, ◌without◌}
+use Rattle.rule.specs.Sets.{Is, ◌and◌, Set, In, ◌with◌, ◌without◌}
 use Rattle.rule.specs.Legal.{Design}
 use Rattle.rule.proofs.Tests.{cases, same_test, is_false, and_make, and_l, and_r}
 use Rattle.theory.specs.Joined.{joined, spans}

@@ -1,6 +1,6 @@
 -- What the calls need and promise. What they promise of the tables holds for every design and all forests of its edges that the tables
 -- hold before the call.
-use Rattle.std.specs.Prelude.{◌≡◌, ◌≢◌, Bool, cond, List, ℕ, ◌≤◌, ◌<◌, length}
+use Rattle.std.specs.Prelude.{◌≡◌, ◌≢◌, cond, List, ℕ, ◌≤◌, ◌<◌, length}
 use Rattle.std.specs.Int.Bits.{bit_xor}
 use Rattle.rule.specs.Sets.{Is, In, put}
 use Rattle.rule.specs.Legal.{Design}

@@ -4,14 +4,14 @@
 -- numbers 1 to m.
 -- Assumes nothing.
 use mathlib.Core.Path.{◌≡◌, refl, sym, ap, ap₂, ◌∙◌, subst}
-use mathlib.Core.Logic.{◌⊎◌, ⊎_elim, ◌↔◌, ◌≢◌}
+use mathlib.Core.Logic.{⊎_elim, ◌≢◌}
 use mathlib.Core.Bool.{Bool, true, false}
 use mathlib.Core.List.{List, ◌++◌}
-use Prim.Native.Nat.{ℕ, zero, suc, ◌+◌, ◌-◌, ◌≤◌, ◌<◌}
+use Prim.Native.Nat.{ℕ, zero, suc, ◌+◌, ◌≤◌, ◌<◌}
 use native.Mathlib.Omega.{arith}
 use lib.ListN.{length, length-append}
 use Rattle.rule.specs.Sets.{Is, ◌and◌, ◌or◌, isnt, Set, In, put, ◌with◌, ◌without◌, one_if, count, only_if, numbers, Lists}
-use Rattle.rule.proofs.Tests.{cases, by_eq, never, same_test, is_false, and_make, and_l, and_r, or_l, or_r, or_elim, isnt_make, isnt_not, put_same, put_other, with_self, with_old, with_elim, without_old, without_ne, without_make, in_one, in_last}
+use Rattle.rule.proofs.Tests.{cases, by_eq, same_test, is_false, put_same, put_other, with_self, with_old, with_elim, without_ne, in_one, in_last}
 
 -- ---- larger and equal sets
 

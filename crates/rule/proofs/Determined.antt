@@ -2,24 +2,23 @@
 -- first bad place, the reason of a refusal, and the whole outcome of each call. An offer and a question leave one thing
 -- open, the choice of forests and with it moved.
 -- Assumes nothing.
-use mathlib.Core.Path.{◌≡◌, refl, sym, ap, ap₂, ◌∙◌, subst}
-use mathlib.Core.Logic.{◌⊎◌, inl, inr, ⊎_elim, ◌↔◌, ◌≢◌}
-use mathlib.Core.Bool.{Bool, cond}
-use mathlib.Core.List.{List, [], ◌∷◌, ◌++◌}
-use Prim.Native.Nat.{ℕ, zero, suc, ◌≤◌, ◌<◌}
+use mathlib.Core.Path.{◌≡◌, refl, sym, ap₂, ◌∙◌}
+use mathlib.Core.Logic.{inl, inr}
+use mathlib.Core.Bool.{cond}
+use mathlib.Core.List.{List, [], ◌∷◌}
+use Prim.Native.Nat.{ℕ, zero, suc, ◌<◌}
 use native.Mathlib.Nat.{le_antisymm}
 use native.Mathlib.Omega.{arith}
-use lib.ListN.{length, get_or, set, take, drop}
 use lib.Seq.{ext_get_or}
 use lib.Dec.{eqb}
 use Rattle.rule.specs.declared.Book.{Book}
 use Rattle.rule.specs.declared.Reason.{Reason}
 use Rattle.rule.specs.declared.Reason.TheVariants.{Profile, Bodies, Body, SameBody, Colour, Full, Short, Unsound, Line}
-use Rattle.rule.specs.Sets.{Is, Set, In, below, at}
-use Rattle.rule.specs.Legal.{Design, Keeps, Circuit, Grown, Legal}
+use Rattle.rule.specs.Sets.{Set, In, below, at}
+use Rattle.rule.specs.Legal.{Design, Keeps, Circuit, Grown}
 use Rattle.rule.specs.Figures.{GroupLead, Groups}
-use Rattle.rule.specs.Books.{Obeys, Sound, FirstBad}
-use Rattle.rule.specs.Reasons.{number_of, place_of, Check, Pass, Fail, soundness}
+use Rattle.rule.specs.Books.{Sound, FirstBad}
+use Rattle.rule.specs.Reasons.{number_of, place_of, Check, Pass, Fail}
 use Rattle.rule.proofs.Tests.{same_test, by_le, below_in, below_lt, below_make}
 use Rattle.rule.proofs.Counting.{Agree, with_mono, lists_determined}
 use Rattle.rule.proofs.Legality.{legal_sub}

@@ -3,16 +3,16 @@
 -- The first: each part of the subset lies in the same part of the set, and a set inside a sparse one is sparse.
 -- The second: every set of bodies holds at most a·(m−1) edges of the one part and b·(m−1) of the other; all bodies hold every edge.
 -- Assumes nothing.
-use mathlib.Core.Path.{◌≡◌, refl, sym, ap, ◌∙◌, subst}
+use mathlib.Core.Path.{◌≡◌, refl, subst}
 use mathlib.Core.Bool.{true}
-use Prim.Native.Nat.{ℕ, suc, ◌+◌, ◌*◌, ◌-◌, ◌≤◌}
+use Prim.Native.Nat.{ℕ, ◌+◌, ◌*◌, ◌-◌, ◌≤◌}
 use native.Mathlib.Nat.{add-mul}
 use native.Mathlib.Omega.{arith}
-use Rattle.rule.specs.Sets.{Is, ◌and◌, ◌or◌, isnt, Set, In, ◌with◌, count}
+use Rattle.rule.specs.Sets.{Is, ◌and◌, ◌or◌, isnt, Set, count}
 use Rattle.rule.specs.Legal.{Design, k, inside, Sparse, first_part, second_part, Legal}
 use Rattle.rule.specs.Figures.{freedom}
 use Rattle.rule.proofs.Tests.{and_make, and_l, and_r}
-use Rattle.rule.proofs.Counting.{Within, count_mono, Agree, agree, count_eq, count_all, count_split}
+use Rattle.rule.proofs.Counting.{Within, count_mono, count_all, count_split}
 
 module _ (d : Design) where
   pub inside_make : (s w : Set) (e : ℕ) → Is (s e) → Is (w (d.one e)) → Is (w (d.other e)) → Is (inside d s w e)

@@ -8,9 +8,9 @@
 use mathlib.Core.Path.{◌≡◌, refl, sym, ap, ap₂, ◌∙◌, subst}
 use mathlib.Core.Logic.Iff
 use mathlib.Core.Logic.{◌↔◌}
-use mathlib.Core.List.{List, [], ◌∷◌, ◌++◌}
-use Prim.Native.Nat.{ℕ, zero, suc, ◌≤◌, ◌<◌}
-use lib.ListN.{length, set, take, drop, take-append-drop}
+use mathlib.Core.List.{List, ◌++◌}
+use Prim.Native.Nat.{ℕ, ◌≤◌}
+use lib.ListN.{length, drop, take-append-drop}
 use Rattle.rule.specs.declared.Book.{Book}
 use Rattle.rule.specs.declared.Reason.{Reason}
 use Rattle.rule.specs.declared.Answer.{Answer}
@@ -18,7 +18,7 @@ use Rattle.rule.specs.declared.Answer.TheVariants.{Kept, Implied, Refused}
 use Rattle.rule.specs.declared.Done.{Done}
 use Rattle.rule.specs.declared.Figure.{Figure}
 use Rattle.rule.specs.declared.Judged.{Judged}
-use Rattle.rule.specs.Sets.{Set, In}
+use Rattle.rule.specs.Sets.{In}
 use Rattle.rule.specs.Legal.{Keeps}
 use Rattle.rule.specs.Figures.{freedom, dropped}
 use Rattle.rule.specs.Books.{Edge, design_of, forest_of, kept_of, offered, next}

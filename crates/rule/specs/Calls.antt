@@ -3,15 +3,15 @@
 -- In order: a book of zeros; opening; an offer; a question; freedom, dropped and the verdict; the group list. Each goes through the cases of its answer
 -- as Answers.antt does.
 -- The base leaves one thing open, the choice of forests and with it moved: an offer may choose any permitted forests.
-use Rattle.std.specs.Prelude.{◌≡◌, ◌↔◌, true, List, ◌++◌, ℕ, suc, ◌≤◌, ◌<◌, length, get_or, set, take, drop, replicate}
+use Rattle.std.specs.Prelude.{◌≡◌, ◌↔◌, List, ◌++◌, ℕ, ◌≤◌, length, set, take, drop, replicate}
 use Rattle.rule.specs.declared.Book.{Book}
 use Rattle.rule.specs.declared.Answer.{Answer}
 use Rattle.rule.specs.declared.Done.{Done}
 use Rattle.rule.specs.declared.Figure.{Figure}
 use Rattle.rule.specs.declared.Judged.{Judged}
-use Rattle.rule.specs.Sets.{Set, Is, In, ◌with◌}
-use Rattle.rule.specs.Legal.{Design, Keeps, Implies, Circuit}
-use Rattle.rule.specs.Forests.{kept_in, Arranged, moved}
+use Rattle.rule.specs.Sets.{In}
+use Rattle.rule.specs.Legal.{Keeps, Implies, Circuit}
+use Rattle.rule.specs.Forests.{Arranged, moved}
 use Rattle.rule.specs.Figures.{freedom, dropped, verdict, Groups}
 use Rattle.rule.specs.Books.{Edge, design_of, forest_of, kept_of, offered, next}
 use Rattle.rule.specs.Reasons.{Pass, FailBy, opening_checks, question_checks, offer_checks, book_checks, groups_checks}

@@ -1,10 +1,9 @@
 -- The tables tell of the edges 1 to m alone: where two choices of forests agree on these, the tables of the one are those of the other.
 -- Assumes nothing.
-use mathlib.Core.Path.{◌≡◌, sym, ◌∙◌, ap}
-use mathlib.Core.Logic.{◌↔◌}
+use mathlib.Core.Path.{◌≡◌, sym, ◌∙◌}
 use mathlib.Core.List.{List}
 use Prim.Native.Nat.{ℕ}
-use Rattle.rule.specs.Sets.{Is, Set, In, ◌without◌}
+use Rattle.rule.specs.Sets.{In, ◌without◌}
 use Rattle.rule.specs.Legal.{Design}
 use Rattle.rule.specs.Forests.{in_forest}
 use Rattle.rule.proofs.Counting.{Within}
@@ -12,7 +11,7 @@ use Rattle.theory.specs.Joined.{joined}
 use Rattle.theory.proofs.Joined.Laws.{joined_agree}
 use Rattle.theory.proofs.Joined.Acyclic.{without_mono}
 use Rattle.theory.proofs.Legal.Kept.{forest_make, forest_is}
-use Rattle.tables.specs.Tables.{slot, Slots, Labels, Ways, Tabled}
+use Rattle.tables.specs.Tables.{slot, Tabled}
 
 module _ (d : Design) (forest other : ℕ → ℕ) (agree : (e : ℕ) → In d.m e → forest e ≡ other e) where
   there : (f : ℕ) → Within d.m (in_forest forest f) (in_forest other f)

@@ -1,19 +1,16 @@
 -- The tables of a design are those of the same design with one edge more that stands nowhere.
 -- Assumes nothing.
-use mathlib.Core.Path.{◌≡◌, refl, sym, ap, ◌∙◌, subst}
-use mathlib.Core.Logic.{◌↔◌}
-use mathlib.Core.Bool.{Bool}
+use mathlib.Core.Path.{sym, ap, ◌∙◌}
 use mathlib.Core.List.{List}
-use Prim.Native.Nat.{ℕ, suc, ◌≤◌, ◌<◌}
+use Prim.Native.Nat.{ℕ}
 use native.Mathlib.Omega.{arith}
-use Rattle.rule.specs.Sets.{Is, ◌=?◌, Set, In, ◌without◌}
+use Rattle.rule.specs.Sets.{In}
 use Rattle.rule.specs.Legal.{Design}
 use Rattle.rule.specs.Forests.{in_forest}
 use Rattle.rule.specs.Books.{Edge, plus}
 use Rattle.rule.proofs.Tests.{in_one, in_split}
-use Rattle.theory.specs.Joined.{joined}
 use Rattle.theory.proofs.Groups.Longer.{unplaced_new, phi_old, phi_new, joined_forest, joined_forest_without}
-use Rattle.tables.specs.Tables.{slot, filled, Slots, Labels, Ways, Tabled}
+use Rattle.tables.specs.Tables.{slot, Slots, Labels, Ways, Tabled}
 
 module _ (d : Design) (given : Edge) (forest : ℕ → ℕ) (f : ℕ) (h : In 6 f) where
   slots_longer : (edge size : List ℕ) → Slots d forest f edge size → Slots (plus d given) (unplaced_new d forest) f edge size

@@ -1,6 +1,6 @@
 -- What the tables of the forests hold (src/lib.rt says how they are laid out).
-use Rattle.std.specs.Prelude.{◌≡◌, ◌↔◌, Bool, List, ℕ, ◌+◌, ◌-◌, ◌*◌, ◌≤◌, ◌<◌, length, get_or}
-use Rattle.rule.specs.Sets.{Is, isnt, ◌=?◌, Set, In, ◌without◌}
+use Rattle.std.specs.Prelude.{◌≡◌, ◌↔◌, List, ℕ, ◌+◌, ◌-◌, ◌*◌, ◌≤◌, ◌<◌, get_or}
+use Rattle.rule.specs.Sets.{Is, ◌=?◌, Set, In, ◌without◌}
 use Rattle.rule.specs.Legal.{Design}
 use Rattle.rule.specs.Forests.{in_forest}
 use Rattle.theory.specs.Joined.{joined}

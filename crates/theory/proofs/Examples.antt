@@ -2,16 +2,15 @@
 -- the circuits.
 -- Assumes nothing.
 use mathlib.Core.Path.{◌≡◌, refl}
-use mathlib.Core.Bool.{Bool}
 use mathlib.Core.List.{List, [], ◌∷◌, ◌++◌}
-use Prim.Native.Nat.{ℕ, zero, suc, ◌+◌}
+use Prim.Native.Nat.{ℕ, zero, suc}
 use lib.ListN.{length}
 use Rattle.rule.specs.Sets.{◌and◌, ◌or◌, isnt, ◌=?◌, ◌<?◌, ◌≤?◌, put, ◌without◌, count, at, numbers}
 use Rattle.rule.specs.Legal.{Design}
 use Rattle.rule.specs.Forests.{limit, in_forest}
 use Rattle.theory.specs.Joined.{linked, joined_up_to, joined, spans, on_path}
 use Rattle.theory.specs.Exchange.{shifted}
-use Rattle.theory.specs.Search.{Waiting, Result, begin, fresh, reach, try_forest, try_forests, turn, turns, search, trail, path_to, settled}
+use Rattle.theory.specs.Search.{Result, begin, fresh, reach, try_forest, try_forests, turn, turns, search, trail, path_to, settled}
 use Rattle.theory.specs.Search.Result.{found, going}
 
 -- f 1 to f m, as a list

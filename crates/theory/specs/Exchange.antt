@@ -1,6 +1,6 @@
 -- Exchange: which edge may take another's place, and moving along a path of such edges.
 use Rattle.std.specs.Prelude.{ℕ, ◌≤◌, ◌≢◌, List, [], ◌∷◌}
-use Rattle.rule.specs.Sets.{Is, Set, In, put}
+use Rattle.rule.specs.Sets.{Is, In, put}
 use Rattle.rule.specs.Legal.{Design}
 use Rattle.rule.specs.Forests.{limit, in_forest}
 use Rattle.theory.specs.Joined.{spans, on_path}

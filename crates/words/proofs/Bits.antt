@@ -1,18 +1,18 @@
 -- Laws of `bit`: of the word operations, of a power of 2, of the lowest bit; two numbers with the same bits are equal.
 -- Assumes nothing.
 use mathlib.Core.Path.{◌≡◌, refl, sym, ap, ap₂, ◌∙◌, subst}
-use mathlib.Core.Logic.{◌⊎◌, inl, inr, ⊎_elim, ◌≢◌}
+use mathlib.Core.Logic.{◌≢◌}
 use mathlib.Core.Bool.{Bool, true, false, false≢true, beq, not}
 use Prim.Native.Nat.{ℕ, zero, suc, ◌+◌, ◌*◌, ◌-◌, ◌/◌, ◌%◌, ◌^◌, ◌≤◌, ◌<◌, min, max}
-use native.Mathlib.Nat.{pow-zero, pow-suc, mul-div_cancel, mul-mod_left, mod-lt, div-add-mod', zero-div, zero-mod}
+use native.Mathlib.Nat.{pow-suc, mul-div_cancel, mul-mod_left, mod-lt}
 use native.Mathlib.Omega.{arith}
 use lib.Bits.{bit_and, bit_xor, bit_or, differ, and_step, xor_step, or_step, xor_zero_r}
 use lib.Pow.{pow_pos}
 use lib.Count.{count_trailing_zeros, under}
 use lib.Dec.{eqb-suc-zero, eqb-zero-suc, eqb-suc-suc}
 use Rattle.rule.specs.Sets.{Is, ◌and◌, ◌or◌, isnt, ◌=?◌}
-use Rattle.rule.proofs.Tests.{cases, same_test, is_false, and_make, and_l, and_r, or_l, or_r, or_elim, isnt_make, isnt_not, eq_of, eq_is, by_eq, by_le}
-use Rattle.words.specs.Bits.{bit, Lowest, Without}
+use Rattle.rule.proofs.Tests.{is_false, eq_of, eq_is, by_eq}
+use Rattle.words.specs.Bits.{bit}
 
 infix 40 ◌differs◌
 -- the tests differ

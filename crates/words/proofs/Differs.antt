@@ -2,7 +2,7 @@
 -- Assumes nothing.
 use mathlib.Core.Path.{◌≡◌, refl, sym, ap, ◌∙◌}
 use mathlib.Core.Bool.{Bool, true, false}
-use Rattle.rule.specs.Sets.{Is, ◌and◌, isnt}
+use Rattle.rule.specs.Sets.{◌and◌, isnt}
 use Rattle.words.proofs.Bits.{◌differs◌}
 
 pub differs_comm : (a b : Bool) → (a differs b) ≡ (b differs a)

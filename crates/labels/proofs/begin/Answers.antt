@@ -1,6 +1,6 @@
 -- `labels::begin`: each place of a row has its own number for a label, and the word with that bit alone.
 use mathlib.Core.Path.{sym, ◌∙◌, subst}
-use Prim.Native.Nat.{ℕ, ◌+◌, ◌-◌, ◌%◌, ◌^◌, ◌<◌}
+use Prim.Native.Nat.{ℕ, ◌+◌, ◌%◌, ◌^◌, ◌<◌}
 use lib.ListN.{set, length-set}
 use native.Mathlib.Omega.{arith}
 use Rattle.labels.proofs.Single.{Front, front_more, Alone, labels_alone}

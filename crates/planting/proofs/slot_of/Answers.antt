@@ -1,6 +1,5 @@
 -- `planting::slot_of`: the slots before j hold other edges than y.
 use borrow.Author.Rules.{rules}
-use Prim.Native.Nat.{◌-◌}
 use native.Mathlib.Omega.{arith}
 use borrow.Author.Count.{below_more}
 use Rattle.planting.proofs.slot_of.Goals as goal

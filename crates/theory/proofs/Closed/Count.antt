@@ -2,27 +2,26 @@
 -- being the rank of the black ones: in each forest up to a its edges join what u joins, in each forest above a what the black
 -- edges of u join, and in a forest there are as many edges as the rank. So no legal set holds c and an edge more that c covers.
 -- Assumes nothing.
-use mathlib.Core.Path.{◌≡◌, refl, sym, ap, ap₂, ◌∙◌, subst}
-use mathlib.Core.Logic.{◌⊎◌, inl, inr, ⊎_elim, ◌≢◌}
+use mathlib.Core.Path.{◌≡◌, sym, ap, ◌∙◌, subst}
+use mathlib.Core.Logic.{⊎_elim}
 use Prim.Native.Nat.{ℕ, zero, suc, ◌+◌, ◌*◌, ◌≤◌, ◌<◌}
-use native.Mathlib.Nat.{add-zero, add-suc, zero-mul, mul-zero, suc-mul}
+use native.Mathlib.Nat.{add-zero, add-suc, zero-mul, suc-mul}
 use native.Mathlib.Omega.{arith}
-use Rattle.rule.specs.Sets.{Is, ◌and◌, ◌=?◌, Set, In, ◌with◌, count}
+use Rattle.rule.specs.Sets.{Is, Set, In, ◌with◌, count}
 use Rattle.rule.specs.Legal.{Design, Ends, k, Legal}
 use Rattle.rule.specs.Forests.{in_forest, kept_in, limit, Permitted, Arranged}
-use Rattle.rule.proofs.Tests.{cases, and_make, and_l, and_r, with_self, with_old, with_elim}
+use Rattle.rule.proofs.Tests.{with_old, with_elim}
 use Rattle.rule.proofs.Counting.{Within, count_with}
 use Rattle.theory.specs.Numbers.{sum}
-use Rattle.theory.specs.Joined.{spans}
 use Rattle.theory.specs.Rank.{rank, black}
 use Rattle.theory.specs.Closed.{standing, covers, Closed}
-use Rattle.theory.proofs.Numbers.Sums.{sum_eq, sum_add, sum_const, fibre}
+use Rattle.theory.proofs.Numbers.Sums.{sum_eq, sum_const, fibre}
 use Rattle.theory.proofs.Joined.Laws.{joined_same, spans_edge}
 use Rattle.theory.proofs.Joined.Acyclic.{Acyclic, loopless_acyclic, acyclic_sub}
 use Rattle.theory.proofs.Rank.Laws.{rank_same, rank_acyclic}
 use Rattle.theory.proofs.Legal.Kept.{forest_is, kept_has, limit_red, limit_black, limit_most, limit_least}
 use Rattle.theory.proofs.Legal.Count.{black_in, black_not, black_make, legal_count}
-use Rattle.theory.proofs.Closed.Laws.{standing_make, standing_in, standing_forest, covers_at, covers_mono}
+use Rattle.theory.proofs.Closed.Laws.{standing_in, standing_forest, covers_at}
 
 -- a sum of x for the first a and y for the b after them
 sum_two : (f : ℕ → ℕ) (a b x y : ℕ) → ((i : ℕ) → In a i → f i ≡ x) → ((i : ℕ) → a < i → i ≤ a + b → f i ≡ y) → sum f (a + b) ≡ a * x + b * y

@@ -3,16 +3,16 @@
 --
 -- Each pass keeps every closed set whole. After j passes the set is closed or has lost at least j edges, so after m it is closed.
 -- Assumes nothing.
-use mathlib.Core.Path.{◌≡◌, refl, sym, ap, ◌∙◌, subst}
-use mathlib.Core.Logic.{◌⊎◌, inl, inr, ⊎_elim, ◌≢◌}
+use mathlib.Core.Path.{subst}
+use mathlib.Core.Logic.{◌⊎◌, inl, inr, ⊎_elim}
 use Prim.Native.Nat.{ℕ, zero, suc, ◌+◌, ◌≤◌, ◌<◌}
 use native.Mathlib.Omega.{arith}
 use Rattle.rule.specs.Sets.{Is, ◌and◌, ◌or◌, isnt, Set, In, ◌without◌, count}
 use Rattle.rule.specs.Legal.{Design}
 use Rattle.rule.specs.Forests.{in_forest, kept_in}
 use Rattle.rule.proofs.Tests.{cases, and_make, and_l, and_r, or_l, or_r, or_elim, isnt_make, isnt_not, without_make}
-use Rattle.rule.proofs.Counting.{Within, count_mono, count_none, count_le, count_pos, count_without}
-use Rattle.theory.specs.Numbers.{every, some}
+use Rattle.rule.proofs.Counting.{Within, count_mono, count_le, count_pos, count_without}
+use Rattle.theory.specs.Numbers.{some}
 use Rattle.theory.specs.Joined.{spans}
 use Rattle.theory.specs.Closed.{standing, covers, Closed, shrunk, passes, greatest}
 use Rattle.theory.proofs.Numbers.Smallest.{every_make, every_at, some_make, some_elim}

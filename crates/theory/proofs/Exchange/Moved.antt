@@ -1,19 +1,18 @@
 -- How many edges the shift moves: as many as the path has after the new edge. No edge moves into its own forest, since there it
 -- joins its own ends; so the edges whose forest changes are just those of the path, and no edge comes twice.
 -- Assumes nothing.
-use mathlib.Core.Path.{◌≡◌, refl, sym, ap, ◌∙◌, subst}
-use mathlib.Core.Logic.{◌⊎◌, inl, inr, ⊎_elim, ◌≢◌}
-use mathlib.Core.Bool.{Bool, true, false, false≢true}
+use mathlib.Core.Path.{◌≡◌, sym, ap, ◌∙◌, subst}
+use mathlib.Core.Logic.{⊎_elim, ◌≢◌}
+use mathlib.Core.Bool.{true, false, false≢true}
 use mathlib.Core.List.{List, [], ◌∷◌}
-use Prim.Native.Nat.{ℕ, suc, ◌≤◌, ◌<◌}
+use Prim.Native.Nat.{ℕ, suc, ◌<◌}
 use native.Mathlib.Omega.{arith}
 use lib.ListN.{length}
 use Rattle.rule.specs.Sets.{Is, isnt, ◌=?◌, Set, In, put, ◌with◌, ◌without◌, count}
 use Rattle.rule.specs.Legal.{Design}
 use Rattle.rule.specs.Forests.{in_forest, moved}
-use Rattle.rule.proofs.Tests.{same_test, is_false, isnt_make, isnt_not, eq_of, eq_self, by_eq, put_same, put_other, with_self, with_old, with_elim, without_make}
+use Rattle.rule.proofs.Tests.{is_false, isnt_make, isnt_not, eq_of, eq_self, by_eq, put_same, put_other, with_self, with_elim, without_make}
 use Rattle.rule.proofs.Counting.{count_eq, count_none, count_with}
-use Rattle.theory.specs.Joined.{spans}
 use Rattle.theory.specs.Exchange.{Arc, Free, Each, Distinct, Path, end, freed, shifted}
 use Rattle.theory.proofs.Joined.Laws.{spans_edge}
 use Rattle.theory.proofs.Legal.Kept.{forest_make}

@@ -6,23 +6,19 @@
 -- Assumes nothing.
 use mathlib.Core.Path.{◌≡◌, refl, sym, ap, ap₂, ◌∙◌, subst}
 use mathlib.Core.Logic.Iff
-use mathlib.Core.Logic.{◌⊎◌, inl, inr, ⊎_elim, ◌↔◌, ◌≢◌}
-use mathlib.Core.Bool.{Bool, true, false}
+use mathlib.Core.Logic.{◌↔◌, ◌≢◌}
+use mathlib.Core.Bool.{Bool}
 use mathlib.Core.List.{List, [], ◌∷◌}
-use Prim.Native.Nat.{ℕ, suc, ◌≤◌, ◌<◌}
+use Prim.Native.Nat.{ℕ, ◌≤◌}
 use native.Mathlib.Omega.{arith}
-use lib.ListN.{length}
-use Rattle.rule.specs.Sets.{Is, isnt, ◌=?◌, Set, In, put, ◌with◌, ◌without◌, count}
+use Rattle.rule.specs.Sets.{Is, ◌=?◌, In, put}
 use Rattle.rule.specs.Legal.{Design, k}
-use Rattle.rule.specs.Forests.{limit, in_forest, kept_in, Permitted, Arranged, moved}
-use Rattle.rule.proofs.Tests.{cases, same_test, is_false, isnt_make, isnt_not, eq_of, eq_is, eq_self, by_eq, put_same, put_other, put_put, put_comm, put_id, with_self, with_old, with_elim, without_make}
-use Rattle.rule.proofs.Counting.{count_eq, count_none, count_with}
-use Rattle.theory.specs.Joined.{joined, spans}
-use Rattle.theory.specs.Exchange.{Arc, Free, Each, Distinct, Path, end, exchanged, walked, freed, shifted}
-use Rattle.theory.proofs.Joined.Laws.{spans_edge}
-use Rattle.theory.proofs.Joined.Acyclic.{Acyclic, loopless_acyclic, acyclic_loopless, acyclic_add, acyclic_sub}
-use Rattle.theory.proofs.Legal.Kept.{forest_make, forest_is, forest_put, limit_most}
-use Rattle.theory.proofs.Exchange.Step.{path_needs}
+use Rattle.rule.specs.Forests.{limit, in_forest, Permitted, Arranged}
+use Rattle.rule.proofs.Tests.{same_test, eq_of, eq_is, by_eq, put_same, put_other, put_put, put_comm, put_id}
+use Rattle.theory.specs.Joined.{spans}
+use Rattle.theory.specs.Exchange.{Free, Each, Distinct, Path, end, exchanged, walked, freed, shifted}
+use Rattle.theory.proofs.Joined.Acyclic.{Acyclic, loopless_acyclic, acyclic_loopless, acyclic_add}
+use Rattle.theory.proofs.Legal.Kept.{forest_is, forest_put}
 use Rattle.theory.proofs.Exchange.Walk.{away, Start, walk_arranged, walk_joined, walk_end}
 
 -- ---- the shift is the walk with the last edge put in

@@ -3,13 +3,13 @@
 -- That forest loses y and gains x, on whose path y is, so it stays without a loop and joins what it joined (`swap_same`). The same
 -- holds of it without any z that is not on the path of x: so no exchange with z appears or vanishes (`same_without`).
 -- Assumes nothing.
-use mathlib.Core.Path.{◌≡◌, refl, sym, ap, ap₂, ◌∙◌, subst}
+use mathlib.Core.Path.{◌≡◌, sym, ap, ap₂, ◌∙◌, subst}
 use mathlib.Core.Logic.{◌≢◌}
 use mathlib.Core.Bool.{Bool, true, false}
 use Prim.Native.Nat.{ℕ, ◌≤◌}
 use native.Mathlib.Omega.{arith}
-use Rattle.rule.specs.Sets.{Is, ◌and◌, isnt, ◌=?◌, Set, In, put, ◌with◌, ◌without◌}
-use Rattle.rule.specs.Legal.{Design, k}
+use Rattle.rule.specs.Sets.{Is, ◌=?◌, Set, In, put, ◌with◌, ◌without◌}
+use Rattle.rule.specs.Legal.{Design}
 use Rattle.rule.specs.Forests.{limit, in_forest, Permitted, Arranged}
 use Rattle.rule.proofs.Tests.{cases, same_test, is_false, and_make, and_l, and_r, isnt_make, isnt_not, eq_of, eq_self, by_eq, by_le, put_same, put_other, put_id, put_comm, without_old, without_ne, without_make}
 use Rattle.theory.specs.Joined.{joined, spans, on_path}

@@ -5,13 +5,13 @@
 -- (`path_same`). So at the end the forests have no loop, and each joins what it joined before; only the path's last edge stands
 -- nowhere (`walk_arranged`, `walk_joined`, `walk_end`).
 -- Assumes nothing.
-use mathlib.Core.Path.{◌≡◌, refl, sym, ap, ap₂, ◌∙◌, subst}
+use mathlib.Core.Path.{◌≡◌, refl, sym, ap₂, ◌∙◌, subst}
 use mathlib.Core.Logic.{◌≢◌}
 use mathlib.Core.Bool.{Bool}
 use mathlib.Core.List.{List, [], ◌∷◌}
 use Prim.Native.Nat.{ℕ, ◌≤◌}
 use native.Mathlib.Omega.{arith}
-use Rattle.rule.specs.Sets.{Is, ◌and◌, isnt, Set, In, put, ◌without◌}
+use Rattle.rule.specs.Sets.{◌and◌, isnt, In, put}
 use Rattle.rule.specs.Legal.{Design}
 use Rattle.rule.specs.Forests.{in_forest, Arranged}
 use Rattle.rule.proofs.Tests.{put_same}

@@ -5,24 +5,23 @@
 -- way, the greatest closed set covers the new edge, so no legal set holds both. A set closed with limit k for every edge is closed.
 -- Assumes nothing.
 use mathlib.Core.Path.{◌≡◌, refl, sym, ap, ◌∙◌, subst}
-use mathlib.Core.Logic.{◌⊎◌, inl, inr, ⊎_elim, ◌↔◌, ◌≢◌}
+use mathlib.Core.Logic.{◌↔◌, ◌≢◌}
 use mathlib.Core.Bool.{Bool, cond}
-use Prim.Native.Nat.{ℕ, suc, ◌≤◌, ◌<◌}
+use Prim.Native.Nat.{ℕ, suc, ◌≤◌}
 use native.Mathlib.Omega.{arith}
 use Rattle.rule.specs.Sets.{Is, ◌and◌, ◌=?◌, Set, In, ◌with◌, ◌without◌}
 use Rattle.rule.specs.Legal.{Design, Ends, k, Legal, Implies}
 use Rattle.rule.specs.Forests.{limit, kept_in, Arranged}
 use Rattle.rule.specs.Figures.{InGroup}
 use Rattle.rule.specs.Books.{Edge, plus}
-use Rattle.rule.proofs.Tests.{is_false, and_make, and_l, and_r, eq_of, eq_is, in_one, with_elim, without_old, without_ne}
+use Rattle.rule.proofs.Tests.{is_false, and_make, and_l, and_r, eq_of, eq_is, in_one, without_old, without_ne}
 use Rattle.rule.proofs.Counting.{Within, with_mono}
-use Rattle.theory.specs.Joined.{joined, spans}
 use Rattle.theory.specs.Closed.{standing, covers, Closed, greatest}
 use Rattle.theory.specs.Groups.{joined_in_all, rigid_core, core}
-use Rattle.theory.specs.Search.{Waiting, Result, search}
+use Rattle.theory.specs.Search.{Result, search}
 use Rattle.theory.specs.Search.Result.{found, going}
 use Rattle.theory.proofs.Joined.Laws.{joined_mono}
-use Rattle.theory.proofs.Legal.Kept.{kept_has, kept_most, limit_most}
+use Rattle.theory.proofs.Legal.Kept.{kept_most, limit_most}
 use Rattle.theory.proofs.Closed.Laws.{standing_make, standing_in, standing_forest, covers_make, covers_at, covers_mono, greatest_kept, greatest_closed, greatest_holds}
 use Rattle.theory.proofs.Closed.Count.{closed_none}
 use Rattle.theory.proofs.Search.Outcome.{found_kept, stuck_closed, stuck_covered, seen_kept}

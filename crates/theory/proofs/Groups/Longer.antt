@@ -1,21 +1,20 @@
 -- An arrangement of a design is one of the same design with an edge more that stands nowhere: same kept edges, and a set of them covers
 -- what it covered before.
 -- Assumes nothing.
-use mathlib.Core.Path.{◌≡◌, refl, sym, ap, ap₂, ◌∙◌, subst, fun_ext}
-use mathlib.Core.Logic.{◌≢◌}
+use mathlib.Core.Path.{◌≡◌, sym, ap, ◌∙◌, subst, fun_ext}
 use mathlib.Core.Bool.{Bool, cond}
-use Prim.Native.Nat.{ℕ, suc, ◌≤◌, ◌<◌}
+use Prim.Native.Nat.{ℕ, suc, ◌≤◌}
 use native.Mathlib.Omega.{arith}
 use Rattle.rule.specs.Sets.{Is, Set, In, put, ◌without◌}
 use Rattle.rule.specs.Legal.{Design, k}
 use Rattle.rule.specs.Forests.{limit, in_forest, kept_in, Permitted, Arranged}
 use Rattle.rule.specs.Books.{Edge, plus}
-use Rattle.rule.proofs.Tests.{same_test, by_eq, by_le, in_split, put_same, put_other, without_old}
+use Rattle.rule.proofs.Tests.{same_test, by_eq, in_split, put_same, put_other, without_old}
 use Rattle.rule.proofs.Counting.{Within}
 use Rattle.theory.specs.Joined.{joined, spans}
 use Rattle.theory.specs.Closed.{standing, covers}
-use Rattle.theory.proofs.Joined.Laws.{joined_agree, spans_mono}
-use Rattle.theory.proofs.Joined.Acyclic.{Acyclic, loopless_acyclic, acyclic_loopless, without_mono, acyclic_sub}
+use Rattle.theory.proofs.Joined.Laws.{joined_agree}
+use Rattle.theory.proofs.Joined.Acyclic.{loopless_acyclic, acyclic_loopless, without_mono, acyclic_sub}
 use Rattle.theory.proofs.Joined.Longer.{joined_longer, spans_longer, spans_new, acyclic_longer}
 use Rattle.theory.proofs.Legal.Kept.{forest_make, forest_is, kept_make, kept_has, kept_most}
 use Rattle.theory.proofs.Closed.Laws.{standing_make, standing_in, standing_forest, covers_make, covers_at}

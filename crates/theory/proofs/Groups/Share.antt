@@ -5,22 +5,22 @@
 -- w. Hence those edges are closed with limit k, and lie in the greatest such set. The other way, let w be the bodies that set joins
 -- to u. In each forest its edges join all of w, so there are at least k·(size−1) of them inside w, and kept edges are legal.
 -- Assumes nothing.
-use mathlib.Core.Path.{◌≡◌, refl, sym, ap, ◌∙◌, subst}
-use mathlib.Core.Logic.{◌⊎◌, inl, inr, ⊎_elim, ◌↔◌, ◌≢◌}
-use Prim.Native.Nat.{ℕ, zero, suc, ◌+◌, ◌*◌, ◌-◌, ◌≤◌, ◌<◌}
+use mathlib.Core.Path.{◌≡◌, sym, subst}
+use mathlib.Core.Logic.{inr, ⊎_elim, ◌↔◌}
+use Prim.Native.Nat.{ℕ, zero, suc, ◌*◌, ◌-◌, ◌≤◌}
 use native.Mathlib.Nat.{le_antisymm, suc-mul}
 use native.Mathlib.Omega.{arith}
 use Rattle.rule.specs.Sets.{Is, Set, In, count}
 use Rattle.rule.specs.Legal.{Design, Ends, k, inside}
-use Rattle.rule.specs.Forests.{in_forest, kept_in, Arranged}
+use Rattle.rule.specs.Forests.{kept_in, Arranged}
 use Rattle.rule.specs.Figures.{Share, InGroup}
 use Rattle.rule.proofs.Tests.{in_one, in_split}
 use Rattle.rule.proofs.Counting.{Within, count_mono, count_pos}
 use Rattle.rule.proofs.Legality.{inside_make, inside_in, inside_one, inside_other, inside_mono, legal_inside}
-use Rattle.theory.specs.Numbers.{every, sum}
+use Rattle.theory.specs.Numbers.{sum}
 use Rattle.theory.specs.Joined.{joined, spans}
 use Rattle.theory.specs.Rank.{rank}
-use Rattle.theory.specs.Closed.{standing, greatest}
+use Rattle.theory.specs.Closed.{standing}
 use Rattle.theory.specs.Groups.{joined_in_all, rigid_core}
 use Rattle.theory.proofs.Numbers.Smallest.{every_make, every_at}
 use Rattle.theory.proofs.Numbers.Sums.{sum_mono, sum_const}

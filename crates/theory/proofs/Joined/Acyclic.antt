@@ -5,9 +5,9 @@
 -- what two deletions leave joined, both together leave joined (`both_deleted`); so a set that holds the whole path joins its ends
 -- (`joined_in_part`, by deleting the others one by one).
 -- Assumes nothing.
-use mathlib.Core.Path.{◌≡◌, refl, sym, ap, ◌∙◌, subst}
-use mathlib.Core.Logic.{◌⊎◌, inl, inr, ⊎_elim, ◌↔◌, ◌≢◌}
-use Prim.Native.Nat.{ℕ, zero, suc, ◌≤◌, ◌<◌}
+use mathlib.Core.Path.{◌≡◌, sym, ◌∙◌, subst}
+use mathlib.Core.Logic.{◌⊎◌, inl, inr, ⊎_elim, ◌≢◌}
+use Prim.Native.Nat.{ℕ, zero, suc}
 use native.Mathlib.Omega.{arith}
 use Rattle.rule.specs.Sets.{Is, ◌and◌, ◌or◌, isnt, ◌≤?◌, Set, In, ◌with◌, ◌without◌}
 use Rattle.rule.specs.Legal.{Design}
@@ -16,7 +16,7 @@ use Rattle.rule.proofs.Tests.{cases, and_make, and_l, and_r, or_l, or_r, or_elim
 use Rattle.rule.proofs.Counting.{Within}
 use Rattle.theory.specs.Joined.{joined, spans}
 use Rattle.theory.proofs.Joined.Chains.{joined_chain, chain_joined}
-use Rattle.theory.proofs.Joined.Laws.{joined_mono, joined_split, spans_edge, spans_mono, spans_split, turned_at, turned, back_in}
+use Rattle.theory.proofs.Joined.Laws.{joined_mono, joined_split, spans_edge, spans_mono, spans_split, turned_at, turned}
 
 -- no edge of s has its ends joined by the others
 unfoldable pub Acyclic : Design → Set → Type 0

@@ -1,12 +1,11 @@
 -- The test `joined` says just what a chain of edges says: joined by the edges 1 to j of s means a chain of edges of s below
 -- j + 1. By induction on j, with the one-edge lemma `chain_split`.
 -- Assumes nothing.
-use mathlib.Core.Path.{◌≡◌, refl, sym, ap, ◌∙◌, subst}
-use mathlib.Core.Logic.{◌⊎◌, inl, inr, ⊎_elim, ◌↔◌, ◌≢◌}
-use mathlib.Core.Bool.{Bool}
-use Prim.Native.Nat.{ℕ, zero, suc, ◌≤◌, ◌<◌}
+use mathlib.Core.Path.{sym, subst}
+use mathlib.Core.Logic.{inl, inr, ⊎_elim, ◌≢◌}
+use Prim.Native.Nat.{ℕ, zero, suc, ◌≤◌}
 use native.Mathlib.Omega.{arith}
-use Rattle.rule.specs.Sets.{Is, ◌and◌, ◌or◌, ◌=?◌, Set, In, ◌with◌, below}
+use Rattle.rule.specs.Sets.{Is, Set, In, ◌with◌, below}
 use Rattle.rule.specs.Legal.{Design}
 use Rattle.rule.specs.Forests.{Chain}
 use Rattle.rule.specs.Forests.Chain.{here, along, back}

@@ -3,17 +3,16 @@
 --
 -- All are read off chains (Chains.antt). From here on nothing speaks of chains: graph reasoning goes by these laws.
 -- Assumes nothing.
-use mathlib.Core.Path.{◌≡◌, refl, sym, ap, ◌∙◌, subst}
-use mathlib.Core.Logic.{◌⊎◌, inl, inr, ⊎_elim, ◌↔◌, ◌≢◌}
-use mathlib.Core.Bool.{Bool}
-use Prim.Native.Nat.{ℕ, zero, suc, ◌≤◌, ◌<◌}
+use mathlib.Core.Path.{◌≡◌, refl, sym, ◌∙◌, subst}
+use mathlib.Core.Logic.{◌⊎◌, inl, inr, ⊎_elim}
+use Prim.Native.Nat.{ℕ}
 use Rattle.rule.specs.Sets.{Is, Set, In, ◌with◌, ◌without◌}
 use Rattle.rule.specs.Legal.{Design}
 use Rattle.rule.specs.Forests.{Chain}
 use Rattle.rule.specs.Forests.Chain.{here, along, back}
-use Rattle.rule.proofs.Tests.{same_test, by_eq, with_self, with_old, with_elim, without_old, without_ne, without_make}
+use Rattle.rule.proofs.Tests.{same_test, by_eq, with_self, with_old, with_elim, without_old, without_make}
 use Rattle.rule.proofs.Counting.{Within}
-use Rattle.rule.proofs.Loops.{chain_trans, chain_sym, chain_edge, chain_mono, chain_split}
+use Rattle.rule.proofs.Loops.{chain_trans, chain_sym, chain_edge, chain_split}
 use Rattle.theory.specs.Joined.{joined, spans}
 use Rattle.theory.proofs.Joined.Chains.{joined_chain, chain_joined}
 

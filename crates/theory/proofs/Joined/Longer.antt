@@ -1,8 +1,7 @@
 -- A design and the same with one edge more: a set that does not have the new edge joins the same bodies in both.
 -- Assumes nothing.
-use mathlib.Core.Path.{◌≡◌, refl, sym, ap, ap₂, ◌∙◌, subst}
-use mathlib.Core.Logic.{◌≢◌}
-use Prim.Native.Nat.{ℕ, suc, ◌≤◌, ◌<◌}
+use mathlib.Core.Path.{◌≡◌, sym, ap₂, ◌∙◌, subst}
+use Prim.Native.Nat.{ℕ, suc}
 use native.Mathlib.Omega.{arith}
 use Rattle.rule.specs.Sets.{Is, Set, In, ◌without◌}
 use Rattle.rule.specs.Legal.{Design}

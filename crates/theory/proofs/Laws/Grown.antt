@@ -1,16 +1,16 @@
 -- The kept set of a grown design: it is legal, no edge can be added to it, it exists, and with one edge more it holds that edge
 -- exactly when the edge is kept.
 -- Assumes nothing.
-use mathlib.Core.Path.{◌≡◌, refl, sym, ap, ◌∙◌, subst}
-use mathlib.Core.Logic.{◌⊎◌, inl, inr, ⊎_elim, ◌↔◌, ◌≢◌}
+use mathlib.Core.Path.{◌≡◌, refl, sym, ◌∙◌, subst}
+use mathlib.Core.Logic.{⊎_elim, ◌↔◌, ◌≢◌}
 use mathlib.Core.Bool.{Bool, true, false}
 use Prim.Native.Nat.{ℕ, zero, suc, ◌≤◌, ◌<◌}
 use native.Mathlib.Omega.{arith}
 use Rattle.rule.specs.Sets.{Is, Set, In, put, ◌with◌, below, count}
-use Rattle.rule.specs.Legal.{Design, Ends, Legal, Keeps, Implies, Grown}
+use Rattle.rule.specs.Legal.{Design, Ends, Legal, Keeps, Grown}
 use Rattle.rule.specs.Books.{Edge, plus}
-use Rattle.rule.proofs.Tests.{cases, never, same_test, by_eq, in_one, in_split, put_same, put_other, with_self, with_old, with_elim, without_old, below_in, below_lt, below_make}
-use Rattle.rule.proofs.Counting.{Within, with_mono, Agree, count_eq}
+use Rattle.rule.proofs.Tests.{cases, never, by_eq, in_split, put_same, put_other, with_self, with_old, with_elim, without_old, below_in, below_lt, below_make}
+use Rattle.rule.proofs.Counting.{Within, with_mono, Agree}
 use Rattle.rule.proofs.Legality.{legal_sub}
 use Rattle.rule.proofs.Determined.{keeps_same, grown_determined}
 use Rattle.theory.proofs.Matroid.Arrange.{legal_none, legal_with?}

@@ -1,15 +1,14 @@
 -- One edge more: a design and the same with an edge appended have the same legal sets of old edges.
 -- Assumes nothing.
-use mathlib.Core.Path.{◌≡◌, refl, sym, ap, ◌∙◌, subst}
+use mathlib.Core.Path.{◌≡◌, refl, sym, subst}
 use mathlib.Core.Logic.{⊎_elim, ◌≢◌}
-use Prim.Native.Nat.{ℕ, suc, ◌≤◌, ◌<◌}
+use Prim.Native.Nat.{ℕ, suc}
 use native.Mathlib.Omega.{arith}
 use Rattle.rule.specs.Sets.{Is, ◌=?◌, Set, In, ◌with◌, below}
 use Rattle.rule.specs.Legal.{Design, Ends, Legal, Keeps, Grown}
 use Rattle.rule.specs.Books.{Edge, plus}
-use Rattle.rule.proofs.Tests.{by_eq, in_one, in_split, put_same, put_other, with_elim, with_self, with_old, below_in, below_lt, below_make}
-use Rattle.rule.proofs.Counting.{Within, with_mono}
-use Rattle.rule.proofs.Legality.{legal_sub}
+use Rattle.rule.proofs.Tests.{in_one, in_split, put_same, put_other, with_elim, below_lt}
+use Rattle.rule.proofs.Counting.{Within}
 use Rattle.theory.proofs.Laws.Transport.{Carries, legal_carried}
 
 module _ (d : Design) (given : Edge) where

@@ -3,16 +3,15 @@
 --
 -- Into each set of bodies the map sends no more edges than there are, so what is sparse there is sparse here.
 -- Assumes nothing.
-use mathlib.Core.Path.{◌≡◌, refl, sym, ap, ◌∙◌, subst}
+use mathlib.Core.Path.{◌≡◌, sym, ap, ◌∙◌, subst}
 use mathlib.Core.Bool.{Bool}
-use Prim.Native.Nat.{ℕ, zero, suc, ◌+◌, ◌*◌, ◌-◌, ◌≤◌, ◌<◌}
+use Prim.Native.Nat.{ℕ, zero, suc, ◌*◌, ◌-◌, ◌≤◌}
 use native.Mathlib.Omega.{arith}
 use Rattle.rule.specs.Sets.{Is, ◌and◌, ◌or◌, isnt, ◌=?◌, Set, In, one_if, count}
 use Rattle.rule.specs.Legal.{Design, inside, Sparse, first_part, second_part, Legal}
 use Rattle.rule.proofs.Tests.{cases, is_false, and_make, and_l, and_r, eq_of, in_one}
 use Rattle.rule.proofs.Counting.{count_none}
 use Rattle.rule.proofs.Legality.{inside_make, inside_in, inside_one, inside_other}
-use Rattle.theory.specs.Numbers.{sum}
 use Rattle.theory.proofs.Numbers.Sums.{sum_mono, sum_count, fibre}
 
 -- ---- a map that sends no two numbers of s to one

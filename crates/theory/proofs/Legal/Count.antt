@@ -2,10 +2,9 @@
 -- The edges of the first part are (a,a)-sparse and x joins their ends; those of the second are black and (b,b)-sparse, and the
 -- black edges of x join theirs.
 -- Assumes nothing.
-use mathlib.Core.Path.{◌≡◌, refl, sym, ap, ◌∙◌}
 use Prim.Native.Nat.{ℕ, ◌+◌, ◌*◌, ◌≤◌}
 use native.Mathlib.Omega.{arith}
-use Rattle.rule.specs.Sets.{Is, ◌and◌, ◌or◌, isnt, Set, In, count}
+use Rattle.rule.specs.Sets.{Is, Set, count}
 use Rattle.rule.specs.Legal.{Design, Ends, Legal, first_part, second_part}
 use Rattle.rule.proofs.Tests.{and_make, and_l, and_r, or_l, isnt_make, isnt_not}
 use Rattle.rule.proofs.Counting.{Within}

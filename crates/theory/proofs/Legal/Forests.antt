@@ -1,21 +1,20 @@
 -- Forests give legality. A set with no closed loop is (1,1)-sparse: its edges inside w are as many as their rank, and the smallest
 -- body of w adds nothing to it. So c forests together are (c,c)-sparse; forests 1 to a are the first part, a + 1 to k the second.
 -- Assumes nothing.
-use mathlib.Core.Path.{◌≡◌, refl, sym, ap, ◌∙◌, subst}
-use mathlib.Core.Logic.{◌⊎◌, inl, inr, ⊎_elim, ◌≢◌}
-use Prim.Native.Nat.{ℕ, zero, suc, ◌+◌, ◌*◌, ◌-◌, ◌≤◌, ◌<◌}
-use native.Mathlib.Nat.{add-mul, one-mul, zero-mul}
+use mathlib.Core.Path.{subst}
+use mathlib.Core.Logic.{⊎_elim}
+use Prim.Native.Nat.{ℕ, zero, suc, ◌+◌, ◌-◌, ◌≤◌, ◌<◌}
+use native.Mathlib.Nat.{add-mul, one-mul}
 use native.Mathlib.Numerals.{add-one}
 use native.Mathlib.Omega.{arith}
-use Rattle.rule.specs.Sets.{Is, ◌and◌, ◌or◌, isnt, ◌=?◌, ◌<?◌, ◌≤?◌, Set, In, ◌with◌, ◌without◌, below, count}
+use Rattle.rule.specs.Sets.{Is, ◌and◌, ◌or◌, ◌<?◌, ◌≤?◌, Set, In, count}
 use Rattle.rule.specs.Legal.{Design, Ends, k, inside, Sparse, Legal, first_part, second_part}
 use Rattle.rule.specs.Forests.{in_forest, kept_in, Permitted, Arranged}
-use Rattle.rule.proofs.Tests.{cases, is_false, and_make, and_l, and_r, or_l, or_r, or_elim, isnt_not, eq_of, eq_is, lt_of, lt_is, le_of, le_is, not_le, by_eq, by_le, without_make}
-use Rattle.rule.proofs.Counting.{Within, count_mono, count_none, count_or, count_without}
+use Rattle.rule.proofs.Tests.{and_make, and_l, and_r, or_l, or_r, or_elim, isnt_not, eq_is, lt_of, lt_is, le_of, le_is, not_le, by_eq}
+use Rattle.rule.proofs.Counting.{Within, count_mono, count_none, count_or}
 use Rattle.rule.proofs.Legality.{inside_make, inside_in, inside_one, inside_other, sparse_sub}
-use Rattle.rule.proofs.Loops.{none_closes_loopless}
 use Rattle.theory.proofs.Legal.Kept.{kept_has, limit_red, limit_most}
-use Rattle.theory.proofs.Joined.Acyclic.{Acyclic, loopless_acyclic, acyclic_loopless, acyclic_sub}
+use Rattle.theory.proofs.Joined.Acyclic.{Acyclic, loopless_acyclic, acyclic_sub}
 use Rattle.theory.proofs.Rank.Laws.{rank_acyclic}
 use Rattle.theory.proofs.Rank.Held.{rank_held}
 

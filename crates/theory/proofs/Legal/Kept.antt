@@ -4,7 +4,7 @@ use mathlib.Core.Path.{◌≡◌, ap}
 use mathlib.Core.Bool.{cond}
 use Prim.Native.Nat.{ℕ, ◌≤◌}
 use native.Mathlib.Omega.{arith}
-use Rattle.rule.specs.Sets.{Is, ◌and◌, ◌=?◌, ◌≤?◌, put}
+use Rattle.rule.specs.Sets.{Is, ◌=?◌, ◌≤?◌, put}
 use Rattle.rule.specs.Legal.{Design, k}
 use Rattle.rule.specs.Forests.{in_forest, kept_in, limit}
 use Rattle.rule.proofs.Tests.{cases, is_false, and_make, and_l, and_r, eq_of, eq_is, lt_of, lt_is, le_of, le_is, put_map}

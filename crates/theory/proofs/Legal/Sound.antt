@@ -5,7 +5,7 @@ use mathlib.Core.Path.{◌≡◌, refl, subst}
 use Prim.Native.Nat.{ℕ, zero, suc, ◌≤◌}
 use native.Mathlib.Omega.{arith}
 use Rattle.rule.specs.declared.Book.{Book}
-use Rattle.rule.specs.Sets.{Is, In, below, at}
+use Rattle.rule.specs.Sets.{In, below, at}
 use Rattle.rule.specs.Legal.{Design, Ends, k, Legal}
 use Rattle.rule.specs.Forests.{Chain, in_forest, Permitted, NoneCloses, Arranged}
 use Rattle.rule.specs.Books.{edge_of, design_of, forest_of, kept_of, EdgeRange, HeadRule, EdgeRule, Obeys, Sound}

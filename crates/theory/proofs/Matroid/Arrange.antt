@@ -1,16 +1,16 @@
 -- Every legal set has an arrangement in forests: its edges are put in one by one, in number order. The search finds each a place,
 -- since a subset of a legal set is legal and a stuck search says that it is not.
 -- Assumes nothing.
-use mathlib.Core.Path.{◌≡◌, refl, sym, ap, ◌∙◌, subst}
+use mathlib.Core.Path.{◌≡◌, refl, sym, ◌∙◌, subst}
 use mathlib.Core.Logic.{◌⊎◌, inl, inr, ⊎_elim, ◌≢◌}
 use mathlib.Core.List.{◌∷◌}
-use Prim.Native.Nat.{ℕ, zero, suc, ◌≤◌, ◌<◌}
+use Prim.Native.Nat.{ℕ, zero, suc, ◌≤◌}
 use native.Mathlib.Omega.{arith}
 use Rattle.rule.specs.Sets.{Is, Set, In, ◌with◌, below}
 use Rattle.rule.specs.Legal.{Design, Ends, Legal}
 use Rattle.rule.specs.Forests.{in_forest, kept_in, Permitted, Arranged}
 use Rattle.rule.proofs.Tests.{cases, same_test, by_eq, by_le, with_self, with_old, with_elim, below_in, below_lt, below_make}
-use Rattle.rule.proofs.Counting.{Within, with_mono, Agree, agree}
+use Rattle.rule.proofs.Counting.{with_mono, Agree}
 use Rattle.rule.proofs.Legality.{legal_sub}
 use Rattle.theory.specs.Exchange.{shifted}
 use Rattle.theory.specs.Search.{Result, search, path_to}
@@ -19,7 +19,7 @@ use Rattle.theory.proofs.Joined.Acyclic.{Acyclic, acyclic_loopless}
 use Rattle.theory.proofs.Legal.Kept.{forest_is, kept_make, kept_has}
 use Rattle.theory.proofs.Legal.Forests.{forests_legal}
 use Rattle.theory.proofs.Exchange.Shift.{shift_kept, shift_new}
-use Rattle.theory.proofs.Search.Outcome.{found_start, found_free, found_arranged, found_kept, stuck_implied}
+use Rattle.theory.proofs.Search.Outcome.{found_start, found_free, found_arranged, stuck_implied}
 
 -- forests in which exactly the edges of s stand, as they may
 pub record Arrangement (d : Design) (s : Set) : Type 0 where

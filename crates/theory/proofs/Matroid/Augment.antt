@@ -3,15 +3,15 @@
 --
 -- If no edge of the larger set could be taken, the smaller one would be as large as can be among the edges of both.
 -- Assumes nothing.
-use mathlib.Core.Path.{◌≡◌, refl, sym, ap, ◌∙◌, subst}
+use mathlib.Core.Path.{subst}
 use mathlib.Core.Logic.{◌⊎◌, inl, inr, ⊎_elim}
-use Prim.Native.Nat.{ℕ, zero, suc, ◌≤◌, ◌<◌}
+use Prim.Native.Nat.{ℕ, zero, suc, ◌<◌}
 use native.Mathlib.Omega.{arith}
 use Rattle.rule.specs.Sets.{Is, ◌or◌, Set, In, ◌with◌, count}
 use Rattle.rule.specs.Legal.{Design, Ends, Legal}
 use Rattle.rule.proofs.Tests.{cases, or_l, or_r, or_elim, in_one, in_split}
 use Rattle.theory.proofs.Matroid.Arrange.{legal_with?}
-use Rattle.theory.proofs.Matroid.Formula.{Maximal, maximal_largest}
+use Rattle.theory.proofs.Matroid.Formula.{maximal_largest}
 
 -- one of 1 to j has P, or none has
 pub find : (P : ℕ → Type 0) (j : ℕ) → ((i : ℕ) → In j i → Dec (P i)) → ((i : ℕ) × (In j i × P i)) ⊎ ((i : ℕ) → In j i → ¬ (P i))

@@ -5,20 +5,20 @@
 -- that are not in k. Each of these is implied, so the search for it is stuck and what it reached is a closed set that covers it;
 -- hence so does the greatest one, and `closed_count` gives its size.
 -- Assumes nothing.
-use mathlib.Core.Path.{◌≡◌, refl, sym, ap, ◌∙◌, subst}
-use mathlib.Core.Logic.{◌⊎◌, inl, inr, ⊎_elim, ◌≢◌}
-use Prim.Native.Nat.{ℕ, ◌+◌, ◌*◌, ◌≤◌, ◌<◌}
+use mathlib.Core.Path.{◌≡◌, refl, sym, ◌∙◌, subst}
+use mathlib.Core.Logic.{⊎_elim}
+use Prim.Native.Nat.{ℕ, ◌+◌, ◌*◌, ◌≤◌}
 use native.Mathlib.Nat.{mul-le-mul_left, le_antisymm}
 use native.Mathlib.Omega.{arith}
 use Rattle.rule.specs.Sets.{Is, ◌and◌, ◌or◌, isnt, Set, In, ◌with◌, ◌without◌, count}
 use Rattle.rule.specs.Legal.{Design, Ends, Legal}
 use Rattle.rule.specs.Forests.{limit, kept_in}
 use Rattle.rule.proofs.Tests.{cases, same_test, and_make, and_l, and_r, or_l, or_r, or_elim, isnt_make, isnt_not, without_old, without_ne}
-use Rattle.rule.proofs.Counting.{Within, with_mono, Agree, agree, count_mono, count_eq, count_split}
+use Rattle.rule.proofs.Counting.{Within, with_mono, Agree, count_mono, count_eq, count_split}
 use Rattle.rule.proofs.Legality.{legal_sub}
 use Rattle.theory.specs.Rank.{rank, black}
 use Rattle.theory.specs.Closed.{covers, greatest}
-use Rattle.theory.specs.Search.{Waiting, Result, search}
+use Rattle.theory.specs.Search.{Result, search}
 use Rattle.theory.specs.Search.Result.{found, going}
 use Rattle.theory.proofs.Rank.Laws.{rank_sub}
 use Rattle.theory.proofs.Legal.Count.{black_in, black_not, black_make, legal_count}

@@ -1,12 +1,12 @@
 -- Laws of `smallest`, `some` and `every`.
 -- Assumes nothing.
-use mathlib.Core.Path.{◌≡◌, refl, sym, ap, ◌∙◌, subst}
-use mathlib.Core.Logic.{◌⊎◌, inl, inr, ⊎_elim, ◌≢◌}
-use mathlib.Core.Bool.{Bool, true, false, cond}
-use Prim.Native.Nat.{ℕ, zero, suc, ◌≤◌, ◌<◌}
+use mathlib.Core.Path.{◌≡◌, refl, sym, subst}
+use mathlib.Core.Logic.{◌⊎◌, inl, inr, ⊎_elim}
+use mathlib.Core.Bool.{Bool, cond}
+use Prim.Native.Nat.{ℕ, zero, suc, ◌≤◌}
 use native.Mathlib.Nat.{le_antisymm}
 use native.Mathlib.Omega.{arith}
-use Rattle.rule.specs.Sets.{Is, ◌and◌, ◌or◌, Set, In, count}
+use Rattle.rule.specs.Sets.{Is, Set, In, count}
 use Rattle.rule.proofs.Tests.{cases, never, is_false, and_make, and_l, and_r, or_l, or_r, or_elim, in_one, in_split}
 use Rattle.rule.proofs.Counting.{count_none}
 use Rattle.theory.specs.Numbers.{or_else, smallest, some, every}

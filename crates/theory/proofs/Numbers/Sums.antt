@@ -1,14 +1,12 @@
 -- Laws of `sum`, and a set counted by the values of a function (`fibre`).
 -- Assumes nothing.
-use mathlib.Core.Path.{◌≡◌, refl, sym, ap, ap₂, ◌∙◌, subst}
-use mathlib.Core.Logic.{◌≢◌}
-use mathlib.Core.Bool.{Bool}
-use Prim.Native.Nat.{ℕ, zero, suc, ◌+◌, ◌*◌, ◌≤◌, ◌<◌}
+use mathlib.Core.Path.{◌≡◌, refl, sym, ap, ap₂, ◌∙◌}
+use Prim.Native.Nat.{ℕ, zero, suc, ◌+◌, ◌*◌, ◌≤◌}
 use native.Mathlib.Nat.{mul-zero, zero-mul, suc-mul, mul-add}
 use native.Mathlib.Omega.{arith}
 use Rattle.rule.specs.Sets.{Is, ◌and◌, ◌=?◌, Set, In, one_if, count}
-use Rattle.rule.proofs.Tests.{cases, same_test, is_false, and_make, and_l, and_r, eq_of, eq_is, in_one, in_last, in_split, by_eq}
-use Rattle.rule.proofs.Counting.{count_none, one_if_mono}
+use Rattle.rule.proofs.Tests.{cases, same_test, is_false, and_make, and_l, and_r, eq_of, eq_is, in_one, in_last, by_eq}
+use Rattle.rule.proofs.Counting.{count_none}
 use Rattle.theory.specs.Numbers.{sum}
 
 pub sum_eq : (f g : ℕ → ℕ) (n : ℕ) → ((i : ℕ) → In n i → f i ≡ g i) → sum f n ≡ sum g n

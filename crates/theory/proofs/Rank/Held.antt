@@ -4,9 +4,9 @@
 -- Only bodies of w other than its smallest can have a smaller body joined to them (`held_lower`). Where all of those have one, each is
 -- led by a body of w that has none, and that is the smallest (`held_joined`). Where all of w is joined, the smallest is joined to each.
 -- Assumes nothing.
-use mathlib.Core.Path.{◌≡◌, refl, sym, ap, ◌∙◌, subst}
-use mathlib.Core.Logic.{◌⊎◌, inl, inr, ⊎_elim, ◌≢◌}
-use Prim.Native.Nat.{ℕ, suc, ◌-◌, ◌≤◌, ◌<◌}
+use mathlib.Core.Path.{sym, subst}
+use mathlib.Core.Logic.{⊎_elim}
+use Prim.Native.Nat.{ℕ, ◌-◌, ◌≤◌, ◌<◌}
 use native.Mathlib.Omega.{arith}
 use Rattle.rule.specs.Sets.{Is, ◌<?◌, Set, In, ◌with◌, ◌without◌, count}
 use Rattle.rule.specs.Legal.{Design}
@@ -16,8 +16,8 @@ use Rattle.theory.specs.Numbers.{smallest}
 use Rattle.theory.specs.Joined.{joined}
 use Rattle.theory.specs.Rank.{leader, rank_of, rank}
 use Rattle.theory.proofs.Numbers.Smallest.{Smallest, smallest_is, count_some}
-use Rattle.theory.proofs.Joined.Laws.{joined_refl, joined_sym, joined_trans, joined_both}
-use Rattle.theory.proofs.Rank.Leaders.{leader_near, leader_in, leader_low, leader_leads, lower_make}
+use Rattle.theory.proofs.Joined.Laws.{joined_sym, joined_trans, joined_both}
+use Rattle.theory.proofs.Rank.Leaders.{leader_near, leader_in, leader_leads, lower_make}
 use Rattle.theory.proofs.Rank.Laws.{joined_equivalence}
 
 -- of two sets, one in the other and not smaller, each lies in the other

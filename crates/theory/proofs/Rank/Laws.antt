@@ -1,21 +1,20 @@
 -- Laws of the rank of a set of edges. It depends only on what the set joins; an edge whose ends are not yet joined raises it by
 -- one; so it is at most the number of edges, and just that number where there is no closed loop.
 -- Assumes nothing.
-use mathlib.Core.Path.{◌≡◌, refl, sym, ap, ◌∙◌, subst, fun_ext}
-use mathlib.Core.Logic.{◌⊎◌, inl, inr, ⊎_elim, ◌≢◌}
-use mathlib.Core.Bool.{Bool, true}
-use Prim.Native.Nat.{ℕ, zero, suc, ◌+◌, ◌≤◌, ◌<◌}
+use mathlib.Core.Path.{◌≡◌, refl, sym, ap, ◌∙◌, fun_ext}
+use mathlib.Core.Bool.{Bool}
+use Prim.Native.Nat.{ℕ, zero, suc, ◌≤◌}
 use native.Mathlib.Omega.{arith}
-use Rattle.rule.specs.Sets.{Is, ◌<?◌, Set, In, put, ◌with◌, ◌without◌, count}
+use Rattle.rule.specs.Sets.{Is, ◌<?◌, Set, In, ◌with◌, ◌without◌, count}
 use Rattle.rule.specs.Legal.{Design, Ends}
 use Rattle.rule.proofs.Tests.{lt_of, with_self, with_old, without_old}
-use Rattle.rule.proofs.Counting.{Within, Agree, count_none, count_pos, count_without, put_back}
+use Rattle.rule.proofs.Counting.{Within, count_none, count_pos, count_without, put_back}
 use Rattle.theory.specs.Joined.{joined, spans}
 use Rattle.theory.specs.Rank.{leader, rank_of, rank}
 use Rattle.theory.proofs.Numbers.Smallest.{count_some}
 use Rattle.theory.proofs.Joined.Laws.{joined_refl, joined_sym, joined_trans, joined_least, joined_within, joined_mono, joined_split, joined_agree, spans_edge}
 use Rattle.theory.proofs.Joined.Acyclic.{Acyclic, acyclic_sub}
-use Rattle.theory.proofs.Rank.Leaders.{Equivalence, leader_near, rank_mono, Linked, rank_linked}
+use Rattle.theory.proofs.Rank.Leaders.{Equivalence, leader_near, rank_mono, rank_linked}
 
 module _ (d : Design) where
   pub joined_equivalence : (s : Set) → Equivalence (joined d s)

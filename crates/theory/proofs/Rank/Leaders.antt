@@ -2,16 +2,15 @@
 --
 -- Of the two leaders the larger loses its place, and nobody else does (`rank_linked`).
 -- Assumes nothing.
-use mathlib.Core.Path.{◌≡◌, refl, sym, ap, ◌∙◌, subst}
-use mathlib.Core.Logic.{◌⊎◌, inl, inr, ⊎_elim, ◌≢◌}
+use mathlib.Core.Path.{◌≡◌, sym, ◌∙◌, subst}
+use mathlib.Core.Logic.{◌⊎◌, inl, inr, ⊎_elim}
 use mathlib.Core.Bool.{Bool}
-use Prim.Native.Nat.{ℕ, zero, suc, ◌+◌, ◌≤◌, ◌<◌}
+use Prim.Native.Nat.{ℕ, suc, ◌≤◌, ◌<◌}
 use native.Mathlib.Nat.{le_antisymm}
 use native.Mathlib.Omega.{arith}
-use Rattle.rule.specs.Sets.{Is, isnt, ◌=?◌, ◌<?◌, Set, In, ◌with◌, one_if, count}
-use Rattle.rule.proofs.Tests.{cases, same_test, is_false, eq_of, eq_is, lt_of, lt_is, by_eq, by_le, with_self, with_old, with_elim}
+use Rattle.rule.specs.Sets.{Is, ◌<?◌, In, ◌with◌}
+use Rattle.rule.proofs.Tests.{same_test, lt_of, lt_is, by_eq, by_le, with_self, with_old, with_elim}
 use Rattle.rule.proofs.Counting.{count_mono, count_eq, count_with}
-use Rattle.theory.specs.Numbers.{smallest}
 use Rattle.theory.specs.Rank.{leader, rank_of}
 use Rattle.theory.proofs.Numbers.Smallest.{Smallest, smallest_is}
 

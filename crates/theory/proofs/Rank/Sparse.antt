@@ -3,22 +3,20 @@
 -- Each class of bodies that t joins holds at most c·(size−1) of them, and every edge lies in one class. The sizes less one, added
 -- up over the classes, are the rank of t.
 -- Assumes nothing.
-use mathlib.Core.Path.{◌≡◌, refl, sym, ap, ◌∙◌, subst}
-use mathlib.Core.Logic.{◌⊎◌, inl, inr, ⊎_elim, ◌≢◌}
+use mathlib.Core.Path.{◌≡◌, refl, ap, ◌∙◌, subst}
 use mathlib.Core.Bool.{Bool, true, false, false≢true}
-use Prim.Native.Nat.{ℕ, zero, suc, ◌+◌, ◌*◌, ◌-◌, ◌≤◌, ◌<◌}
+use Prim.Native.Nat.{ℕ, ◌+◌, ◌*◌, ◌-◌, ◌≤◌}
 use native.Mathlib.Omega.{arith}
-use Rattle.rule.specs.Sets.{Is, ◌and◌, isnt, ◌=?◌, ◌<?◌, Set, In, one_if, count}
+use Rattle.rule.specs.Sets.{Is, ◌and◌, ◌=?◌, ◌<?◌, Set, In, one_if, count}
 use Rattle.rule.specs.Legal.{Design, Ends, inside, Sparse}
 use Rattle.rule.proofs.Tests.{cases, same_test, is_false, and_make, and_l, and_r, eq_of, eq_is, lt_of, lt_is, by_le, by_eq}
 use Rattle.rule.proofs.Counting.{count_eq, count_none, count_all, count_pos, count_sums}
-use Rattle.rule.proofs.Legality.{inside_make, inside_in, inside_one, inside_other}
+use Rattle.rule.proofs.Legality.{inside_make, inside_in, inside_one}
 use Rattle.theory.specs.Numbers.{sum}
 use Rattle.theory.specs.Joined.{joined, spans}
 use Rattle.theory.specs.Rank.{leader, rank_of, rank}
-use Rattle.theory.proofs.Numbers.Smallest.{count_some}
 use Rattle.theory.proofs.Numbers.Sums.{sum_eq, sum_mono, sum_add, sum_mul, sum_count, fibre}
-use Rattle.theory.proofs.Rank.Leaders.{Equivalence, leader_in, leader_high, leader_near, leader_same, leader_leads}
+use Rattle.theory.proofs.Rank.Leaders.{Equivalence, leader_in, leader_high, leader_same, leader_leads}
 use Rattle.theory.proofs.Rank.Laws.{joined_equivalence}
 
 -- ---- the classes of an equivalence

@@ -1,15 +1,14 @@
 -- The rank is the bodies touched less the connected pieces, as request #111 words it: a body that is not the smallest of those
 -- joined to it is touched, and the touched ones that are the smallest are one for each piece.
 -- Assumes nothing.
-use mathlib.Core.Path.{◌≡◌, refl, sym, ap, ◌∙◌}
+use mathlib.Core.Path.{◌≡◌, ap, ◌∙◌}
 use mathlib.Core.Logic.{◌⊎◌, ⊎_elim}
-use Prim.Native.Nat.{ℕ, ◌+◌, ◌≤◌, ◌<◌}
+use Prim.Native.Nat.{ℕ, ◌+◌, ◌≤◌}
 use native.Mathlib.Omega.{arith}
-use Rattle.rule.specs.Sets.{Is, ◌and◌, ◌or◌, isnt, ◌=?◌, ◌<?◌, Set, In, count}
+use Rattle.rule.specs.Sets.{Is, ◌and◌, isnt, ◌=?◌, ◌<?◌, Set, In, count}
 use Rattle.rule.specs.Legal.{Design}
-use Rattle.rule.proofs.Tests.{same_test, and_make, and_l, and_r, or_l, or_r, eq_self, lt_of}
+use Rattle.rule.proofs.Tests.{same_test, and_make, and_r, or_l, or_r, eq_self, lt_of}
 use Rattle.rule.proofs.Counting.{count_eq, count_split}
-use Rattle.theory.specs.Numbers.{some}
 use Rattle.theory.specs.Joined.{joined}
 use Rattle.theory.specs.Rank.{leader, rank_of, rank, touched, pieces}
 use Rattle.theory.proofs.Numbers.Smallest.{some_make}

@@ -1,25 +1,24 @@
 -- The circuit of an implied edge, as document 01 lists it: the reached edges without the new one, smallest first; one fewer than
 -- wait. It is never empty where a is at least 1 and the edge has two different ends: in forest 1 its edges join the ends.
 -- Assumes nothing.
-use mathlib.Core.Path.{◌≡◌, refl, sym, ap, ◌∙◌, subst}
-use mathlib.Core.Logic.{◌↔◌, ◌≢◌}
-use mathlib.Core.List.{List}
-use Prim.Native.Nat.{ℕ, suc, ◌≤◌, ◌<◌}
+use mathlib.Core.Path.{◌≡◌, refl, ap, ◌∙◌, subst}
+use mathlib.Core.Logic.{◌≢◌}
+use Prim.Native.Nat.{ℕ, suc, ◌≤◌}
 use native.Mathlib.Omega.{arith}
 use lib.ListN.{length}
-use Rattle.rule.specs.Sets.{Is, ◌≤?◌, Set, In, ◌with◌, ◌without◌, count, numbers, Lists}
-use Rattle.rule.specs.Legal.{Design, Ends, Legal, InCircuit, Circuit}
+use Rattle.rule.specs.Sets.{Is, ◌≤?◌, In, ◌without◌, count, numbers}
+use Rattle.rule.specs.Legal.{Design, Ends, Circuit}
 use Rattle.rule.specs.Forests.{limit, kept_in, Arranged}
 use Rattle.rule.proofs.Tests.{cases, le_of, le_is, without_old, without_ne, without_make}
 use Rattle.rule.proofs.Counting.{count_without, count_pos, length_numbers}
 use Rattle.theory.specs.Joined.{spans}
-use Rattle.theory.specs.Closed.{standing, covers}
-use Rattle.theory.specs.Search.{Waiting, Result, search}
-use Rattle.theory.specs.Search.Result.{found, going}
+use Rattle.theory.specs.Closed.{standing}
+use Rattle.theory.specs.Search.{Waiting, search}
+use Rattle.theory.specs.Search.Result.{going}
 use Rattle.theory.proofs.Joined.Laws.{joined_least}
 use Rattle.theory.proofs.Legal.Kept.{kept_has, limit_least}
 use Rattle.theory.proofs.Closed.Laws.{standing_in, covers_at}
-use Rattle.theory.proofs.Search.Reached.{size, Reached}
+use Rattle.theory.proofs.Search.Reached.{size}
 use Rattle.theory.proofs.Search.Image.{seen_count}
 use Rattle.theory.proofs.Search.Outcome.{circuit_exact, seen_kept, stuck_covered, stuck_reached}
 

@@ -6,28 +6,28 @@
 -- without y and with the new one. Without a y that is not reached the closed set is still there.
 -- Assumes nothing.
 use mathlib.Core.Path.{◌≡◌, refl, sym, ap, ◌∙◌, subst}
-use mathlib.Core.Logic.{◌⊎◌, inl, inr, ⊎_elim, ◌↔◌, ◌≢◌}
-use mathlib.Core.List.{List, ◌∷◌}
-use Prim.Native.Nat.{ℕ, zero, suc, ◌≤◌, ◌<◌}
+use mathlib.Core.Logic.{⊎_elim, ◌↔◌, ◌≢◌}
+use mathlib.Core.List.{◌∷◌}
+use Prim.Native.Nat.{ℕ, ◌≤◌, ◌<◌}
 use native.Mathlib.Omega.{arith}
 use Rattle.rule.specs.Sets.{Is, ◌and◌, Set, In, ◌with◌, ◌without◌}
-use Rattle.rule.specs.Legal.{Design, Ends, k, Legal}
+use Rattle.rule.specs.Legal.{Design, Ends, Legal}
 use Rattle.rule.specs.Forests.{limit, in_forest, kept_in, Arranged}
-use Rattle.rule.proofs.Tests.{cases, and_make, and_l, and_r, by_eq, with_self, with_old, with_elim, without_old, without_ne, without_make}
+use Rattle.rule.proofs.Tests.{cases, and_l, and_r, by_eq, with_elim, without_old, without_ne, without_make}
 use Rattle.rule.proofs.Counting.{Within, with_mono}
 use Rattle.rule.proofs.Legality.{legal_sub}
-use Rattle.theory.specs.Joined.{spans, on_path}
+use Rattle.theory.specs.Joined.{spans}
 use Rattle.theory.specs.Closed.{standing, covers, Closed}
 use Rattle.theory.specs.Exchange.{Free, end, walked, shifted}
 use Rattle.theory.specs.Search.{Waiting, edge_at, Result, search, path_to}
 use Rattle.theory.specs.Search.Result.{found, going}
 use Rattle.theory.proofs.Joined.Laws.{spans_mono}
 use Rattle.theory.proofs.Joined.Acyclic.{joined_in_part}
-use Rattle.theory.proofs.Legal.Kept.{forest_make, forest_is, kept_make, kept_has, kept_most, limit_most}
+use Rattle.theory.proofs.Legal.Kept.{forest_is, kept_make, kept_has, limit_most}
 use Rattle.theory.proofs.Legal.Forests.{forests_legal}
 use Rattle.theory.proofs.Closed.Laws.{standing_make, covers_make}
 use Rattle.theory.proofs.Closed.Count.{forest_acyclic, closed_none}
-use Rattle.theory.proofs.Exchange.Step.{path_in, path_edge, path_make}
+use Rattle.theory.proofs.Exchange.Step.{path_make}
 use Rattle.theory.proofs.Exchange.Walk.{Start, walk_arranged}
 use Rattle.theory.proofs.Exchange.Shift.{shift_arranged, shift_kept, shift_new, walk_kept, walk_new}
 use Rattle.theory.proofs.Search.Reached.{size, Reached}

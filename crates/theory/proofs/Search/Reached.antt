@@ -4,21 +4,21 @@
 -- place (`Reached`). What stood at a place stands there still when more edges wait behind (`Grows`).
 -- Assumes nothing.
 use mathlib.Core.Path.{◌≡◌, refl, sym, ap, ap₂, ◌∙◌, subst, subst₂}
-use mathlib.Core.Logic.{◌⊎◌, inl, inr, ⊎_elim, ◌↔◌, ◌≢◌}
+use mathlib.Core.Logic.{◌⊎◌, inl, inr, ⊎_elim, ◌↔◌}
 use mathlib.Core.Bool.{Bool, true, false, false≢true}
 use mathlib.Core.List.{List, [], ◌∷◌, ◌++◌}
-use Prim.Native.Nat.{ℕ, zero, suc, ◌+◌, ◌≤◌, ◌<◌}
+use Prim.Native.Nat.{ℕ, ◌+◌, ◌≤◌, ◌<◌}
 use native.Mathlib.Omega.{arith}
 use lib.ListN.{length, get_or, length-append, length-replicate, get_or-replicate, replicate, get_or-append}
 use lib.Seq.{get_or-append-add}
-use Rattle.rule.specs.Sets.{Is, ◌and◌, ◌or◌, isnt, ◌=?◌, Set, In, numbers}
+use Rattle.rule.specs.Sets.{Is, ◌and◌, ◌or◌, isnt, ◌=?◌, In, numbers}
 use Rattle.rule.specs.Legal.{Design}
 use Rattle.rule.specs.Forests.{limit, in_forest}
 use Rattle.rule.proofs.Tests.{cases, never, eq_of, eq_self}
 use Rattle.theory.specs.Joined.{on_path}
 use Rattle.theory.specs.Exchange.{Arc}
 use Rattle.theory.specs.Search.{Waiting, edge_at, from_at, begin, fresh, reach}
-use Rattle.theory.proofs.Numbers.Listing.{Behind, split_place, numbers_at, numbers_has, numbers_once}
+use Rattle.theory.proofs.Numbers.Listing.{split_place, numbers_at, numbers_has, numbers_once}
 use Rattle.theory.proofs.Exchange.Step.{path_in, path_edge}
 use Rattle.theory.proofs.Legal.Kept.{forest_is}
 

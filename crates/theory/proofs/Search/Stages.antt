@@ -5,19 +5,18 @@
 -- ends the search in a forest where the edge is free (`tried`); so each turn does, and all turns do (`search_ends`).
 -- Assumes nothing.
 use mathlib.Core.Path.{◌≡◌, refl, sym, ap, ◌∙◌, subst}
-use mathlib.Core.Logic.{◌⊎◌, inl, inr, ⊎_elim, ◌≢◌}
-use mathlib.Core.Bool.{Bool, true, false}
-use Prim.Native.Nat.{ℕ, zero, suc, ◌+◌, ◌≤◌, ◌<◌}
+use mathlib.Core.Bool.{Bool}
+use Prim.Native.Nat.{ℕ, zero, suc, ◌≤◌, ◌<◌}
 use native.Mathlib.Omega.{arith}
 use mathlib.Core.List.{[], ◌∷◌}
 use lib.ListN.{length, get_or}
-use Rattle.rule.specs.Sets.{Is, ◌=?◌, ◌<?◌, Set, In, ◌without◌}
+use Rattle.rule.specs.Sets.{Is, ◌=?◌, ◌<?◌, In, ◌without◌}
 use Rattle.rule.specs.Legal.{Design, k}
 use Rattle.rule.specs.Forests.{limit, in_forest}
-use Rattle.rule.proofs.Tests.{cases, is_false, eq_of, eq_is, lt_of, not_lt, by_eq, in_split, without_make}
+use Rattle.rule.proofs.Tests.{cases, is_false, eq_of, lt_of, not_lt, by_eq, in_split, without_make}
 use Rattle.theory.specs.Joined.{spans, on_path}
 use Rattle.theory.specs.Exchange.{Free}
-use Rattle.theory.specs.Search.{Waiting, edge_at, from_at, Result, and_then, begin, reach, pick_result, try_forest, try_forests, turn, turns, search}
+use Rattle.theory.specs.Search.{Waiting, edge_at, from_at, Result, and_then, begin, pick_result, try_forest, try_forests, turn, turns, search}
 use Rattle.theory.specs.Search.Result.{found, going}
 use Rattle.theory.proofs.Joined.Laws.{spans_edge}
 use Rattle.theory.proofs.Exchange.Step.{path_needs}

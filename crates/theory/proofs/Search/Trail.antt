@@ -8,7 +8,7 @@ use mathlib.Core.Logic.{◌≢◌}
 use mathlib.Core.List.{List, [], ◌∷◌}
 use Prim.Native.Nat.{ℕ, zero, suc, ◌≤◌, ◌<◌}
 use native.Mathlib.Omega.{arith}
-use Rattle.rule.specs.Sets.{Is, In}
+use Rattle.rule.specs.Sets.{In}
 use Rattle.rule.specs.Legal.{Design}
 use Rattle.rule.specs.Forests.{limit}
 use Rattle.theory.specs.Exchange.{Arc, Each, Distinct, Path, end}
