@@ -2,7 +2,6 @@
 -- forests are an arrangement.
 -- Assumes nothing.
 use mathlib.Core.Path.{◌≡◌, sym, ap, ◌∙◌, subst, subst₂}
-use mathlib.Core.Logic.{◌≢◌}
 use Prim.Native.Nat.{ℕ, ◌<◌}
 use native.Mathlib.Omega.{arith}
 use Rattle.rule.specs.declared.Book.{Book}

@@ -32,7 +32,7 @@ use Rattle.search.specs.Ends.{Led, Traced, Queued, CircuitListed}
 use Rattle.reaching.proofs.Held.{held_few}
 use Rattle.moving.specs.Moves.{backward}
 use Rattle.engine.specs.Seek.{forests_for, Seekable, EndsIn, Fails}
-use Rattle.engine.proofs.Says.{offered_ends, offered_arranged, offered_last, offered_unplaced, free}
+use Rattle.engine.proofs.Says.{offered_ends, offered_arranged, offered_last, offered_unplaced}
 
 -- ---- the first places of an array, read backwards
 

@@ -2,119 +2,132 @@
 use borrow.Author.Rules.{rules}
 use mathlib.Core.Path.{◌≡◌, refl, subst}
 use mathlib.Core.List.{List}
-use Prim.Native.Nat.{ℕ, ◌+◌, ◌<◌}
+use Prim.Native.Nat.{ℕ, suc, ◌+◌, ◌<◌}
 use lib.ListN.{length}
 use native.Mathlib.Omega.{arith}
 use Rattle.rule.specs.declared.Book.{Book}
-use Rattle.rule.specs.Books.{the_edge}
+use Rattle.rule.specs.Books.{Edge, the_edge, offered, next}
+use Rattle.theory.specs.Search.{search as searching}
 use Rattle.theory.proofs.Legal.Sound.{sound_head}
+use Rattle.reaching.specs.Setting.{HoldsWaiting}
+use Rattle.search.specs.declared.Outcome.{Outcome}
 use Rattle.search.specs.declared.Outcome.TheVariants.{Found, Stuck}
-use Rattle.engine.specs.Seek.{book_of, EndsIn, Fails}
-use Rattle.engine.proofs.Seeking.{sought, led, small_forest, ends_there, waits, fails_there}
+use Rattle.search.specs.Given.{Sought}
+use Rattle.search.specs.Answers.{Answers, Searched}
+use Rattle.search.specs.Ends.{Led, Traced, Queued, CircuitListed}
+use Rattle.engine.specs.declared.Head.{Head}
+use Rattle.engine.specs.Seek.{book_of, forests_for, Seekable, EndsIn, Fails}
+use Rattle.engine.proofs.Seeking.{sought, searched, led, small_forest, ends_there, waits, fails_there}
 use Rattle.engine.proofs.seek.Goals as goal
+
+module _ (head : Head) (u v colour : ℕ) (ones others colours forests : List ℕ) {root way edge : List ℕ}
+    (s : Seekable (book_of head ones others colours forests) u v root way edge) where
+  abbrev book : Book
+  book = book_of head ones others colours forests
+
+  abbrev given : Edge
+  given = the_edge u v colour
+
+  abbrev Asked : Type 0
+  Asked = Sought head.a (head.a + head.b) given (head.count + 1) ones others colours forests root way edge
+
+  numbered : head.count + 1 ≡ suc head.count
+  numbered = omega arith
+
+  abbrev asked : Asked
+  asked = sought book given s (head.count + 1) numbered
+
+  -- what the book makes of the arrays after the search
+  abbrev Come : (queue from : List ℕ) → Outcome → Type 0
+  Come queue from o =
+      Answers (λ w. HoldsWaiting w queue from) (searching (offered book given) (forests_for book) (next book)) o
+
+  module _ (queue from : List ℕ) {r o : Outcome} (told : (t : Asked) → Searched t.given queue from r) (is : r ≡ o) where
+    come : Come queue from o
+    come = subst (Come queue from) is (searched book given s (head.count + 1) numbered queue from r (told asked))
+
+  -- where it ended
+  module _ (queue from : List ℕ) {r : Outcome} {p f : ℕ} (told : (t : Asked) → Searched t.given queue from r)
+      (is : r ≡ Found p f) where
+    abbrev way_back : Led p queue from
+    way_back = led book given s p f queue from (come queue from told is)
+
+    forest_small : f < 256
+    forest_small = small_forest book given s p f queue from (come queue from told is)
+
+    ends : {path path' : List ℕ} {n : ℕ} → length path ≡ 379 → ((t : Led p queue from) → Traced t.w p path path' n)
+        → EndsIn book given path' n f × (length path' ≡ 379)
+    ends {path} {path'} {n} long traced = ends_there book given s p f queue from (come queue from told is) path path' n long (traced way_back)
+
+  -- where it did not
+  module _ (queue from : List ℕ) {r : Outcome} {n : ℕ} (told : (t : Asked) → Searched t.given queue from r)
+      (is : r ≡ Stuck n) where
+    abbrev all_waiting : Queued n queue
+    all_waiting = waits book given s n queue from (come queue from told is)
+
+    fails : {list listed : List ℕ} {len : ℕ} → length listed ≡ length list
+        → ((t : Queued n queue) → CircuitListed t.w t.d.m n list listed len) → Fails book given list listed len × (len < 65536)
+    fails {list} {listed} {len} long circuit = fails_there book given s n queue from (come queue from told is) list listed len long (circuit all_waiting)
 
 pub overflow_add-number : goal.overflow_add-number
 overflow_add-number c =
-    let book : Book =
-    book_of c.args.head c.args.ones.now c.args.others.now c.args.colours.now c.args.forests.now in
-    let few = (sound_head (book) c.requires.4.sound).edges in search rules
+    let few = (sound_head (book_of c.args.head c.args.ones.now c.args.others.now c.args.colours.now c.args.forests.now) c.requires.4.sound).edges in
+    search rules
 
 pub search-r-requires : goal.search-r-requires
-search-r-requires c =
-    let book : Book =
-    book_of c.args.head c.args.ones.now c.args.others.now c.args.colours.now c.args.forests.now in
-    (c.requires.0, c.requires.1, sought (book) (the_edge c.args.u c.args.v c.args.colour) c.requires.4 (c.args.head.count + 1) (omega arith))
+search-r-requires c = (
+  c.requires.0,
+  c.requires.1,
+  asked c.args.head c.args.u c.args.v c.args.colour c.args.ones.now c.args.others.now c.args.colours.now c.args.forests.now c.requires.4,
+)
 
 pub trail-n-requires : goal.trail-n-requires
-trail-n-requires c =
-    let found_at : tie.After-search =
-    ‹After-search› in
-    let found_come : Task (start_of (found_at)) → Come (found_at) (Found c.in-Found.p c.in-Found.f) =
-    λ s. subst (Come (found_at)) c.in-Found.is (after_search (found_at) s) in
-    let at = found_at in
-    let start = start_of at in
-    let s = start.pre.4 in
-    (start.pre.2, led (book start) (the_edge start.args.u start.args.v start.args.colour) s _ _ (queue_of at) (from_of at) (found_come s))
+trail-n-requires c = (
+  c.requires.2,
+  way_back c.args.head c.args.u c.args.v c.args.colour c.args.ones.now c.args.others.now c.args.colours.now c.args.forests.now c.requires.4
+      _ _ c.search-r.ensures c.in-Found.is,
+)
 
 pub overflow_cast-result : goal.overflow_cast-result
 overflow_cast-result c =
-    let found_at : tie.After-search =
-    ‹After-search› in
-    let found_come : Task (start_of (found_at)) → Come (found_at) (Found c.in-Found.p c.in-Found.f) =
-    λ s. subst (Come (found_at)) c.in-Found.is (after_search (found_at) s) in
-    let at = found_at in
-    let start = start_of at in
-    let s = start.pre.4 in
-    let small = small_forest (book start) (the_edge start.args.u start.args.v start.args.colour) s _ _ (queue_of at) (from_of at) (found_come s) in
+    let small =
+    forest_small c.args.head c.args.u c.args.v c.args.colour c.args.ones.now c.args.others.now c.args.colours.now c.args.forests.now c.requires.4
+    _ _ c.search-r.ensures c.in-Found.is in
     search (rules, small)
 
 pub returns-in-Found : goal.returns-in-Found
 returns-in-Found c =
-    let found_at : tie.After-search =
-    ‹After-search› in
-    let found_come : Task (start_of (found_at)) → Come (found_at) (Found c.in-Found.p c.in-Found.f) =
-    λ s. subst (Come (found_at)) c.in-Found.is (after_search (found_at) s) in
-    let path_of : List ℕ =
-    c.trail-n.new.path in
-    let ends : let start = start_of (found_at) in Task start
-    → EndsIn (book start) (the_edge start.args.u start.args.v start.args.colour) (path_of) c.trail-n.result c.in-Found.f
-    × (length (path_of) ≡ 379) =
-    λ s. let at = found_at in
-    let start = start_of at in
-    let come = found_come s in
-    ends_there (book start) (the_edge start.args.u start.args.v start.args.colour) s _ _ (queue_of at) (from_of at) come start.args.path.now _ c.trail-n.result
-    start.pre.2
-    (c.trail-n.ensures (led (book start) (the_edge start.args.u start.args.v start.args.colour) s _ _ (queue_of at) (from_of at) come)) in
-    let s = (start_of (found_at)).requires.4 in
-    let places = (found_come s).holds.places in
-    (places.0, places.1, (ends s).1, λ s. ((ends s).0, refl))
+    let places =
+    (come c.args.head c.args.u c.args.v c.args.colour c.args.ones.now c.args.others.now c.args.colours.now c.args.forests.now c.requires.4
+    _ _ c.search-r.ensures c.in-Found.is).holds.places in
+    let there = λ (s : Seekable (book_of c.args.head c.args.ones.now c.args.others.now c.args.colours.now c.args.forests.now) c.args.u c.args.v c.args.root.now c.args.way.now c.args.edge.now).
+    ends c.args.head c.args.u c.args.v c.args.colour c.args.ones.now c.args.others.now c.args.colours.now c.args.forests.now s
+    _ _ c.search-r.ensures c.in-Found.is c.requires.2 c.trail-n.ensures in
+    (places.0, places.1, (there c.requires.4).1, λ s. ((there s).0, refl))
 
 pub circuit-m-requires : goal.circuit-m-requires
-circuit-m-requires c =
-    let stuck_at : tie.After-search =
-    ‹After-search› in
-    let stuck_come : Task (start_of (stuck_at)) → Come (stuck_at) (Stuck c.in-Stuck.n) =
-    λ s. subst (Come (stuck_at)) c.in-Stuck.is (after_search (stuck_at) s) in
-    let at = stuck_at in
-    let start = start_of at in
-    let s = start.pre.4 in
-    (start.pre.3, waits (book start) (the_edge start.args.u start.args.v start.args.colour) s _ (queue_of at) (from_of at) (stuck_come s))
+circuit-m-requires c = (
+  c.requires.3,
+  all_waiting c.args.head c.args.u c.args.v c.args.colour c.args.ones.now c.args.others.now c.args.colours.now c.args.forests.now c.requires.4
+      _ _ c.search-r.ensures c.in-Stuck.is,
+)
 
 pub overflow_cast-result-in-Stuck : goal.overflow_cast-result-in-Stuck
 overflow_cast-result-in-Stuck c =
-    let stuck_at : tie.After-search =
-    ‹After-search› in
-    let list_of : List ℕ =
-    c.circuit-m.new.list in
-    let stuck_come : Task (start_of (stuck_at)) → Come (stuck_at) (Stuck c.in-Stuck.n) =
-    λ s. subst (Come (stuck_at)) c.in-Stuck.is (after_search (stuck_at) s) in
-    let fails : let start = start_of (stuck_at) in Task start
-    → Fails (book start) (the_edge start.args.u start.args.v start.args.colour) start.args.list.now (list_of) c.circuit-m.result × (c.circuit-m.result < 65536) =
-    λ s. let at = stuck_at in
-    let start = start_of at in
-    let come = stuck_come s in
-    fails_there (book start) (the_edge start.args.u start.args.v start.args.colour) s _ (queue_of at) (from_of at) come start.args.list.now _
-    c.circuit-m.result c.circuit-m.auto.1.1.0
-    (c.circuit-m.ensures (waits (book start) (the_edge start.args.u start.args.v start.args.colour) s _ (queue_of at) (from_of at) come)) in
-    let small = (fails (start_of (stuck_at)).requires.4).1 in
+    let small =
+    (fails c.args.head c.args.u c.args.v c.args.colour c.args.ones.now c.args.others.now c.args.colours.now c.args.forests.now c.requires.4
+    _ _ c.search-r.ensures c.in-Stuck.is c.circuit-m.auto.list c.circuit-m.ensures).1 in
     search (rules, small)
 
 pub returns-in-Stuck : goal.returns-in-Stuck
 returns-in-Stuck c =
-    let stuck_at : tie.After-search =
-    ‹After-search› in
-    let stuck_come : Task (start_of (stuck_at)) → Come (stuck_at) (Stuck c.in-Stuck.n) =
-    λ s. subst (Come (stuck_at)) c.in-Stuck.is (after_search (stuck_at) s) in
-    let list_of : List ℕ =
-    c.circuit-m.new.list in
-    let fails : let start = start_of (stuck_at) in Task start
-    → Fails (book start) (the_edge start.args.u start.args.v start.args.colour) start.args.list.now (list_of) c.circuit-m.result × (c.circuit-m.result < 65536) =
-    λ s. let at = stuck_at in
-    let start = start_of at in
-    let come = stuck_come s in
-    fails_there (book start) (the_edge start.args.u start.args.v start.args.colour) s _ (queue_of at) (from_of at) come start.args.list.now _
-    c.circuit-m.result c.circuit-m.auto.1.1.0
-    (c.circuit-m.ensures (waits (book start) (the_edge start.args.u start.args.v start.args.colour) s _ (queue_of at) (from_of at) come)) in
-    let start = start_of (stuck_at) in
-    let places = (stuck_come start.pre.4).holds.1.places in
-    (places.0, places.1, start.pre.2, λ s. (fails s).0)
+    let places =
+    (come c.args.head c.args.u c.args.v c.args.colour c.args.ones.now c.args.others.now c.args.colours.now c.args.forests.now c.requires.4
+    _ _ c.search-r.ensures c.in-Stuck.is).holds.1.places in (
+      places.0,
+      places.1,
+      c.requires.2,
+      λ s.
+          (fails c.args.head c.args.u c.args.v c.args.colour c.args.ones.now c.args.others.now c.args.colours.now c.args.forests.now s
+          _ _ c.search-r.ensures c.in-Stuck.is c.circuit-m.auto.list c.circuit-m.ensures).0,
+    )
