@@ -12,8 +12,7 @@ use Rattle.rule.specs.declared.Answer.{Answer}
 use Rattle.rule.specs.declared.Answer.TheVariants.{Kept, Implied}
 use Rattle.rule.specs.declared.Reason.{Reason}
 use Rattle.rule.specs.Reasons.{offer_checks, question_checks}
-use Rattle.rule.specs.Sets.{In}
-use Rattle.rule.specs.Books.{Edge, next, Sound, ColourRange}
+use Rattle.rule.specs.Books.{Edge, next}
 use Rattle.rule.specs.Calls.{KeepsIt, ImpliesIt, Offer, Question}
 use Rattle.theory.specs.Exchange.{shifted}
 use Rattle.theory.specs.Search.{path_to}

@@ -1,3 +1,4 @@
+-- `groups::same_labels`: so far, u and v have one label in each of the first i forests; the first forest in which they have not answers no.
 use mathlib.Core.Path.{◌≡◌, sym, ◌∙◌, subst}
 use mathlib.Core.Bool.{false, false≢true}
 use Prim.Native.Nat.{ℕ, ◌+◌}
@@ -10,11 +11,9 @@ use Rattle.groups.proofs.Reading.{same_none, same_more, same_at}
 use native.Mathlib.Omega.{arith}
 use Rattle.groups.proofs.same_labels.Goals as goal
 
--- src/lib.rt:13:5
 pub loop-i-init : goal.loop-i-init
 loop-i-init c = (omega arith, same_none c.args.root.now c.args.u c.args.v)
 
--- src/lib.rt:16:13
 pub returns-then-not-joined : goal.returns-then-not-joined
 returns-then-not-joined c =
     let i = c.loop-i.i in
@@ -23,7 +22,6 @@ returns-then-not-joined c =
     sym c.joined.ensures ∙ c.if-not-joined.true in
     sym (is_false _ (λ h. false≢true (sym apart ∙ same_at root c.args.u c.args.v c.args.j (i + 1) (omega arith) h)))
 
--- src/lib.rt:13:5
 pub loop-i-preserved : goal.loop-i-preserved
 loop-i-preserved c =
     let root = c.args.root.now in
@@ -35,7 +33,6 @@ loop-i-preserved c =
           (subst (λ (z : ℕ). Is (label root z c.args.u =? label root z c.args.v)) (add-one c.loop-i.i) joined)),
     )
 
--- src/lib.rt:8:1
 pub returns : goal.returns
 returns c =
     let all : c.loop-i.i ≡ c.args.j = omega (arith, c.loop-i.invariant.0, c.loop-i-test.false) in

@@ -1,89 +1,65 @@
 -- `step::question`: a refusal is handed on; else a place is sought.
 use borrow.Author.Rules.{rules}
-use mathlib.Core.Path.{refl}
+use mathlib.Core.Path.{◌≡◌, refl}
+use mathlib.Core.List.{List}
+use Prim.Native.Nat.{ℕ}
 use Rattle.rule.proofs.Passed.{passed_question}
-use Rattle.rule.specs.Books.{the_edge}
+use Rattle.rule.specs.declared.Book.{Book}
+use Rattle.rule.specs.Books.{Edge, the_edge}
 use Rattle.rule.specs.Reasons.{Pass, question_checks}
+use Rattle.book.specs.declared.Checked.{Checked}
+use Rattle.book.specs.Checks.{HoldsForests, FoundBy}
 use Rattle.book.proofs.Checks.{passed}
 use Rattle.step.proofs.Asked.{question_refused, InBytes, asked_in_bytes}
 use Rattle.step.proofs.question.Goals as goal
 
+-- the checks passed
+module _ (B : Book) (given : Edge) (list root way who edge size : List ℕ) (c : Checked) (q : c ≡ Checked.Fine)
+    (found : FoundBy (question_checks B given list) (HoldsForests B root way who edge size) c) where
+  fine : Pass (question_checks B given list) × HoldsForests B root way who edge size
+  fine = passed (question_checks B given list) (HoldsForests B root way who edge size) c q found
+
+  -- the edge goes into bytes
+  small : InBytes given
+  small = asked_in_bytes B given list (passed_question B given list fine.0)
+
 pub returns-in_default : goal.returns-in_default
 returns-in_default c =
-    let start_of : tie.Start =
-    ‹Start› in
-    let start = start_of in
-    let list = start.args.list.now in
-    question_refused start.args.book (the_edge start.args.u start.args.v start.args.colour) list _ c.question_checks-c.result _ c.in_default.is
+    let list = c.args.list.now in
+    question_refused c.args.book (the_edge c.args.u c.args.v c.args.colour) list _ c.question_checks-c.result _ c.in_default.is
     c.refusal.result c.refusal.ensures (c.question_checks-c.ensures list refl)
 
 pub overflow_cast-u : goal.overflow_cast-u
 overflow_cast-u c =
-    let passed_at : tie.After-question-checks =
-    ‹After-question_checks› in
-    let fine : let start = start_of (passed_at) in
-    Pass (question_checks start.args.book (the_edge start.args.u start.args.v start.args.colour) start.args.list.now) × Held (passed_at) =
-    let at = passed_at in
-    let start = start_of at in
-    let list = start.args.list.now in
-    passed (question_checks start.args.book (the_edge start.args.u start.args.v start.args.colour) list) _ at.question-checks.result c.in-Fine.is
-    (at.question-checks.ensures list refl) in
-    let small : let start = start_of (passed_at) in InBytes (the_edge start.args.u start.args.v start.args.colour) =
-    let start = start_of (passed_at) in
-    asked_in_bytes start.args.book (the_edge start.args.u start.args.v start.args.colour) start.args.list.now
-    (passed_question start.args.book (the_edge start.args.u start.args.v start.args.colour) start.args.list.now (fine).0) in
-    let byte = (small).one in
+    let at = c.question_checks-c in
+    let byte =
+    (small c.args.book (the_edge c.args.u c.args.v c.args.colour) c.args.list.now at.new.root at.new.way at.new.who at.new.edge at.new.size
+    at.result c.in-Fine.is (at.ensures c.args.list.now refl)).one in
     search (rules, byte)
 
 pub overflow_cast-v : goal.overflow_cast-v
 overflow_cast-v c =
-    let passed_at : tie.After-question-checks =
-    ‹After-question_checks› in
-    let fine : let start = start_of (passed_at) in
-    Pass (question_checks start.args.book (the_edge start.args.u start.args.v start.args.colour) start.args.list.now) × Held (passed_at) =
-    let at = passed_at in
-    let start = start_of at in
-    let list = start.args.list.now in
-    passed (question_checks start.args.book (the_edge start.args.u start.args.v start.args.colour) list) _ at.question-checks.result c.in-Fine.is
-    (at.question-checks.ensures list refl) in
-    let small : let start = start_of (passed_at) in InBytes (the_edge start.args.u start.args.v start.args.colour) =
-    let start = start_of (passed_at) in
-    asked_in_bytes start.args.book (the_edge start.args.u start.args.v start.args.colour) start.args.list.now
-    (passed_question start.args.book (the_edge start.args.u start.args.v start.args.colour) start.args.list.now (fine).0) in
-    let byte = (small).other in
+    let at = c.question_checks-c in
+    let byte =
+    (small c.args.book (the_edge c.args.u c.args.v c.args.colour) c.args.list.now at.new.root at.new.way at.new.who at.new.edge at.new.size
+    at.result c.in-Fine.is (at.ensures c.args.list.now refl)).other in
     search (rules, byte)
 
 pub overflow_cast-colour : goal.overflow_cast-colour
 overflow_cast-colour c =
-    let passed_at : tie.After-question-checks =
-    ‹After-question_checks› in
-    let fine : let start = start_of (passed_at) in
-    Pass (question_checks start.args.book (the_edge start.args.u start.args.v start.args.colour) start.args.list.now) × Held (passed_at) =
-    let at = passed_at in
-    let start = start_of at in
-    let list = start.args.list.now in
-    passed (question_checks start.args.book (the_edge start.args.u start.args.v start.args.colour) list) _ at.question-checks.result c.in-Fine.is
-    (at.question-checks.ensures list refl) in
-    let small : let start = start_of (passed_at) in InBytes (the_edge start.args.u start.args.v start.args.colour) =
-    let start = start_of (passed_at) in
-    asked_in_bytes start.args.book (the_edge start.args.u start.args.v start.args.colour) start.args.list.now
-    (passed_question start.args.book (the_edge start.args.u start.args.v start.args.colour) start.args.list.now (fine).0) in
-    let byte = (small).colour in
+    let at = c.question_checks-c in
+    let byte =
+    (small c.args.book (the_edge c.args.u c.args.v c.args.colour) c.args.list.now at.new.root at.new.way at.new.who at.new.edge at.new.size
+    at.result c.in-Fine.is (at.ensures c.args.list.now refl)).colour in
     search (rules, byte)
 
 pub sought-requires : goal.sought-requires
 sought-requires c =
-    let passed_at : tie.After-question-checks =
-    ‹After-question_checks› in
-    let fine : let start = start_of (passed_at) in
-    Pass (question_checks start.args.book (the_edge start.args.u start.args.v start.args.colour) start.args.list.now) × Held (passed_at) =
-    let at = passed_at in
-    let start = start_of at in
-    let list = start.args.list.now in
-    passed (question_checks start.args.book (the_edge start.args.u start.args.v start.args.colour) list) _ at.question-checks.result c.in-Fine.is
-    (at.question-checks.ensures list refl) in
-    let tables = (passed_at).question_checks_lem.new.1.1.1.1.1 in
-    record { checked = (fine).0; who = tables.1.1.0; size = tables.1.1.1.1.0; tabled = (fine).1.tabled }
+    let at = c.question_checks-c in
+    let passes =
+    fine c.args.book (the_edge c.args.u c.args.v c.args.colour) c.args.list.now at.new.root at.new.way at.new.who at.new.edge at.new.size
+    at.result c.in-Fine.is (at.ensures c.args.list.now refl) in
+    record { checked = passes.0; who = at.new.who; size = at.new.size; tabled = passes.1.tabled }
 
 pub returns : goal.returns
 returns c = c.sought.ensures
