@@ -18,10 +18,12 @@ loop-i-init c = rounds_none (lines_pieces c.args.book _) (omega arith)
 
 pub add_book_line-end-requires : goal.add_book_line-end-requires
 add_book_line-end-requires c =
-    let book = c.args.book in (
-      (c.loop-i-test.true, (sound_head book c.requires.0).edges),
-      rounds_room (lines_pieces book _) c.loop-i.invariant (lines_room book c.requires.0 _ c.requires.1) c.loop-i-test.true _ refl,
-    )
+    let book = c.args.book in
+    record {
+      i_bound = (c.loop-i-test.true, (sound_head book c.requires.0).edges);
+      i_in_bounds =
+          rounds_room (lines_pieces book _) c.loop-i.invariant (lines_room book c.requires.0 _ c.requires.1) c.loop-i-test.true _ refl;
+    }
 
 pub overflow_add-i : goal.overflow_add-i
 overflow_add-i c =
