@@ -1,7 +1,6 @@
 -- `writer::text_of`: its rounds add the lines of the text one by one (Rounds.antt of crate lines). The text of a sound book fits (Sheets.antt).
 use borrow.Author.Rules.{rules}
 use native.Mathlib.Omega.{arith}
-use Prim.Native.Nat.{◌-◌}
 use mathlib.Core.Path.{refl}
 use Rattle.text.proofs.Overwrites.{writes_as}
 use Rattle.theory.proofs.Legal.Sound.{sound_head}
