@@ -6,7 +6,6 @@ use Rattle.rule.specs.Books.{Edge, edge_of}
 use Rattle.rule.specs.declared.Book.{Book}
 use Rattle.rule.specs.declared.Answer.{Answer}
 use Rattle.rule.specs.declared.Figure.{Figure}
-use Rattle.rule.specs.Sets.{at}
 use Rattle.rule.specs.Reasons.{Check, Pass, FailBy, soundness, room, offer_checks}
 use Rattle.rule.specs.Answers.{FigureSays}
 use Rattle.rule.specs.Calls.{new_book, zero_book, Offer}

@@ -1,6 +1,5 @@
 -- `lines::add_list`: its rounds add the numbers one by one (Rounds.antt, Listing.antt).
 use native.Mathlib.Omega.{arith}
-use Prim.Native.Nat.{◌-◌}
 use mathlib.Core.Path.{ap}
 use Rattle.lines.specs.Adding.{item}
 use Rattle.lines.proofs.Rounds.{rounds_none, rounds_room, rounds_more, rounds_all, rounds_length}

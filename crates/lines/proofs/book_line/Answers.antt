@@ -25,9 +25,11 @@ number_line-requires-in-3 c =
 
 pub given_line-requires : goal.given_line-requires
 given_line-requires c =
-    let none = c.in_default.rest in
-    let past : 4 ≤ c.args.i = omega (arith, none.1, none.0.1, none.0.0.1, none.0.0.0.1) in
-    ((omega (arith, c.requires.i_bound.0), c.requires.i_bound.1), omega (arith, c.requires.i_in_bounds, ap length (line_edge c.args.book c.args.i past)))
+    let past : 4 ≤ c.args.i = omega arith in
+    record {
+      e_lt_count = (omega (arith, c.requires.i_bound.0), c.requires.i_bound.1);
+      e_in_bounds = omega (arith, c.requires.i_in_bounds, ap length (line_edge c.args.book c.args.i past));
+    }
 
 pub returns-in-0 : goal.returns-in-0
 returns-in-0 c =
@@ -47,6 +49,5 @@ returns-in-3 c =
 
 pub returns-in_default : goal.returns-in_default
 returns-in_default c =
-    let none = c.in_default.rest in
-    let past : 4 ≤ c.args.i = omega (arith, none.1, none.0.1, none.0.0.1, none.0.0.0.1) in
+    let past : 4 ≤ c.args.i = omega arith in
     writes_as (sym (line_edge c.args.book c.args.i past)) c.given_line.ensures

@@ -9,8 +9,8 @@ use Rattle.lines.proofs.edge_line.Goals as goal
 pub pair_line-requires : goal.pair_line-requires
 pair_line-requires c = omega (arith, c.requires, ap length (edge_red c.args.one c.args.other c.args.colour c.if-colour-eq1.true))
 
-pub returns : goal.returns
-returns c =
+pub returns-then-colour-eq1 : goal.returns-then-colour-eq1
+returns-then-colour-eq1 c =
     let a = c.args in
     writes_as (sym (edge_red a.one a.other a.colour c.if-colour-eq1.true)) c.pair_line.ensures
 

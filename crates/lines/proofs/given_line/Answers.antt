@@ -10,8 +10,8 @@ use Rattle.lines.proofs.given_line.Goals as goal
 
 pub edge_line-requires : goal.edge_line-requires
 edge_line-requires c =
-    omega (arith, c.requires.e_in_bounds, ap (λ (e : Edge). length (edge_text e)) (edge_held c.args.t1 c.args.e))
+    omega (arith, c.requires.e_in_bounds, ap (λ (e : Edge). length (edge_text e)) (edge_held c.args.book c.args.e))
 
 pub returns : goal.returns
 returns c =
-    writes_as (sym (ap edge_text (edge_held c.args.t1 c.args.e))) c.edge_line.ensures
+    writes_as (sym (ap edge_text (edge_held c.args.book c.args.e))) c.edge_line.ensures

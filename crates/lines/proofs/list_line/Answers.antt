@@ -13,7 +13,11 @@ pub add_list-end-requires : goal.add_list-end-requires
 unfolding line
 add_list-end-requires c =
     let numbers = listed (take c.args.n c.args.list.now) in
-    (c.requires.n_in_bounds, writes_left numbers c.bytes-first.ensures (middle_fits c.args.key.now numbers c.args.buffer.now c.requires.list_in_bounds))
+    record {
+      n_in_bounds = c.requires.n_in_bounds;
+      list_in_bounds =
+          writes_left numbers c.bytes-first.ensures (middle_fits c.args.key.now numbers c.args.buffer.now c.requires.list_in_bounds);
+    }
 
 pub add_byte-requires : goal.add_byte-requires
 unfolding line

@@ -1,7 +1,7 @@
 -- `lines::widen`: its loop keeps `Copied`, of crate text (proofs/Overwrites.antt there), with the first n bytes as what is given.
 use native.Mathlib.Omega.{arith}
 use mathlib.Core.Path.{subst}
-use Prim.Native.Nat.{ℕ, ◌+◌, ◌-◌}
+use Prim.Native.Nat.{ℕ, ◌+◌}
 use lib.ListN.{take, set}
 use lib.Seq.{length-take-le, get_or-take}
 use Rattle.text.proofs.Overwrites.{Copied, copied_none, copied_room, copied_more, copied_all, copied_length}

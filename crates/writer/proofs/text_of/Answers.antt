@@ -1,7 +1,6 @@
 -- `writer::text_of`: its rounds add the lines of the text one by one (Rounds.antt of crate lines). The text of a sound book fits (Sheets.antt).
 use borrow.Author.Rules.{rules}
 use native.Mathlib.Omega.{arith}
-use Prim.Native.Nat.{◌-◌}
 use mathlib.Core.Path.{refl}
 use Rattle.text.proofs.Overwrites.{writes_as}
 use Rattle.theory.proofs.Legal.Sound.{sound_head}
@@ -18,10 +17,12 @@ loop-i-init c = rounds_none (lines_pieces c.args.book _) (omega arith)
 
 pub add_book_line-end-requires : goal.add_book_line-end-requires
 add_book_line-end-requires c =
-    let book = c.args.book in (
-      (c.loop-i-test.true, (sound_head book c.requires.0).edges),
-      rounds_room (lines_pieces book _) c.loop-i.invariant (lines_room book c.requires.0 _ c.requires.1) c.loop-i-test.true _ refl,
-    )
+    let book = c.args.book in
+    record {
+      i_bound = (c.loop-i-test.true, (sound_head book c.requires.0).edges);
+      i_in_bounds =
+          rounds_room (lines_pieces book _) c.loop-i.invariant (lines_room book c.requires.0 _ c.requires.1) c.loop-i-test.true _ refl;
+    }
 
 pub overflow_add-i : goal.overflow_add-i
 overflow_add-i c =
