@@ -5,7 +5,7 @@
 -- definitions, and the comment under the line says how.
 use Rattle.std.specs.Prelude.{List, [], ◌∷◌, ℕ}
 use Rattle.rule.specs.declared.Verdict.{Verdict}
-use Rattle.rule.specs.declared.Verdict.TheVariants.{Tight, OverTight, OverLoose}
+use Rattle.rule.specs.declared.Verdict.TheVariants.{Tight, Loose, OverTight, OverLoose}
 
 -- an offered edge is kept, or implied by its circuit
 pub data RowOutcome : Type 0 where
