@@ -8,22 +8,22 @@ use Rattle.lines.proofs.Listing.{item_first, item_later}
 use Rattle.lines.proofs.add_item.Goals as goal
 
 pub add_number-requires : goal.add_number-requires
-add_number-requires c = omega (arith, c.requires, ap length (item_first c.args.i c.args.x c.if-i-eq0.true))
+add_number-requires c = omega (arith, c.requires, ap length (item_first c.args.i c.args.x (omega arith)))
 
 pub returns-then-i-eq0 : goal.returns-then-i-eq0
 returns-then-i-eq0 c =
     let a = c.args in
-    adds_as (sym (item_first a.i a.x c.if-i-eq0.true)) c.add_number.ensures
+    adds_as (sym (item_first a.i a.x (omega arith))) c.add_number.ensures
 
 pub add_byte-next-requires : goal.add_byte-next-requires
-add_byte-next-requires c = omega (arith, c.requires, ap length (item_later c.args.i c.args.x c.if-i-eq0.false))
+add_byte-next-requires c = omega (arith, c.requires, ap length (item_later c.args.i c.args.x (omega arith)))
 
 pub add_number-requires-2 : goal.add_number-requires-2
 add_number-requires-2 c =
     adds_left (numeral c.args.x) c.add_byte-next.ensures
-    (omega (arith, c.requires, ap length (item_later c.args.i c.args.x c.if-i-eq0.false)))
+    (omega (arith, c.requires, ap length (item_later c.args.i c.args.x (omega arith))))
 
 pub returns : goal.returns
 returns c =
     let a = c.args in
-    adds_as (sym (item_later a.i a.x c.if-i-eq0.false)) (adds_adds c.add_byte-next.ensures c.add_number-2.ensures)
+    adds_as (sym (item_later a.i a.x (omega arith))) (adds_adds c.add_byte-next.ensures c.add_number-2.ensures)

@@ -7,17 +7,17 @@ use Rattle.lines.proofs.Edges.{edge_red, edge_black}
 use Rattle.lines.proofs.edge_line.Goals as goal
 
 pub pair_line-requires : goal.pair_line-requires
-pair_line-requires c = omega (arith, c.requires, ap length (edge_red c.args.one c.args.other c.args.colour c.if-colour-eq1.true))
+pair_line-requires c = omega (arith, c.requires, ap length (edge_red c.args.one c.args.other c.args.colour (omega arith)))
 
 pub returns-then-colour-eq1 : goal.returns-then-colour-eq1
 returns-then-colour-eq1 c =
     let a = c.args in
-    writes_as (sym (edge_red a.one a.other a.colour c.if-colour-eq1.true)) c.pair_line.ensures
+    writes_as (sym (edge_red a.one a.other a.colour (omega arith))) c.pair_line.ensures
 
 pub pair_line-requires-2 : goal.pair_line-requires-2
-pair_line-requires-2 c = omega (arith, c.requires, ap length (edge_black c.args.one c.args.other c.args.colour c.if-colour-eq1.false))
+pair_line-requires-2 c = omega (arith, c.requires, ap length (edge_black c.args.one c.args.other c.args.colour (omega arith)))
 
 pub returns : goal.returns
 returns c =
     let a = c.args in
-    writes_as (sym (edge_black a.one a.other a.colour c.if-colour-eq1.false)) c.pair_line-2.ensures
+    writes_as (sym (edge_black a.one a.other a.colour (omega arith))) c.pair_line-2.ensures

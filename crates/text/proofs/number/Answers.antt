@@ -8,10 +8,10 @@ use Rattle.text.proofs.number.Goals as goal
 
 pub returns-then-byte-eq48 : goal.returns-then-byte-eq48
 unfolding read_number
-returns-then-byte-eq48 c = sym (pick_eq _ _ _ _ (sym c.byte.ensures ∙ c.if-byte-eq48.true))
+returns-then-byte-eq48 c = sym (pick_eq _ _ _ _ (omega arith))
 
 pub loop-used-init : goal.loop-used-init
-loop-used-init c = turned_none _ _ (λ e. c.if-byte-eq48.false (c.byte.ensures ∙ e))
+loop-used-init c = turned_none _ _ (λ e. absurd (omega arith))
 
 pub returns-then-d-gt9 : goal.returns-then-d-gt9
 returns-then-d-gt9 c =

@@ -19,12 +19,12 @@ pub returns-then-buffer-lt6172 : goal.returns-then-buffer-lt6172
 returns-then-buffer-lt6172 c =
     refused_short c.args.book c.args.buffer.now
     (passed_sound c.args.book c.sound_alone-c.result c.in-Fine.is c.sound_alone-c.ensures)
-    (omega (arith, c.if-buffer-lt6172.true))
+    (omega arith)
 
 pub text_of-end-requires : goal.text_of-end-requires
 text_of-end-requires c = (
   passed_sound c.args.book c.sound_alone-c.result c.in-Fine.is c.sound_alone-c.ensures,
-  omega (arith, c.if-buffer-lt6172.false),
+  omega arith,
 )
 
 pub overflow_cast-result : goal.overflow_cast-result
@@ -37,4 +37,4 @@ pub returns : goal.returns
 returns c =
     let sound_here : Sound c.args.book =
     passed_sound c.args.book c.sound_alone-c.result c.in-Fine.is c.sound_alone-c.ensures in
-    ((sound_here, (omega (arith, c.if-buffer-lt6172.false), tt)), c.text_of-end.ensures)
+    ((sound_here, (omega arith, tt)), c.text_of-end.ensures)
