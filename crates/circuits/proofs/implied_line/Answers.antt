@@ -6,4 +6,7 @@ use Rattle.circuits.proofs.implied_line.Goals as goal
 pub list_line-requires : goal.list_line-requires
 list_line-requires c =
     let holds = c.circuit-n.ensures in
-    (holds.within, omega (arith, circuit_fits c.args.book c.requires.0.sound c.args.e holds.is_circuit, c.requires.1))
+    record {
+      n_in_bounds = holds.within;
+      list_in_bounds = omega (arith, circuit_fits c.args.book c.requires.0.sound c.args.e holds.is_circuit, c.requires.1);
+    }

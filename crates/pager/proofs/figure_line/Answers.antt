@@ -23,7 +23,6 @@ returns-in-2 c =
 
 pub returns-in_default : goal.returns-in_default
 returns-in_default c =
-    let none = c.in_default.rest in
     let a = c.args in
-    puts_nth (figures (design_of a.book) (kept_of a.book)) a.j 3 (omega (arith, none.1, none.0.1, none.0.0.1, c.requires.1.0))
+    puts_nth (figures (design_of a.book) (kept_of a.book)) a.j 3 (omega (arith, c.in_default, c.requires.1.0))
     c.groups_line.ensures

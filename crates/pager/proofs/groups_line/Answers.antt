@@ -6,16 +6,19 @@ use Rattle.pager.proofs.Leaders.{bodies_few, listed_long, widened_long, leaders_
 use Rattle.pager.proofs.groups_line.Goals as goal
 
 pub widen-requires : goal.widen-requires
-widen-requires c = (
-  listed_long c.args.book c.requires.0 _ c.list_groups.new.list c.list_groups.ensures,
-  omega (arith, bodies_few c.args.book c.requires.0, length-replicate {A = ℕ} 64 0),
-)
+widen-requires c =
+    record {
+      n_in_bounds = listed_long c.args.book c.requires.0 _ c.list_groups.new.list c.list_groups.ensures;
+      n_in_bounds_2 = omega (arith, bodies_few c.args.book c.requires.0, length-replicate {A = ℕ} 64 0);
+    }
 
 pub list_line-requires : goal.list_line-requires
-list_line-requires c = (
-  widened_long c.args.book c.requires.0 _ c.list_groups.new.list c.list_groups.ensures _ c.widen.new.wide c.widen.ensures,
-  leaders_room c.args.book c.requires.0 _ c.list_groups.new.list c.list_groups.ensures _ c.widen.new.wide c.widen.ensures _ c.requires.1,
-)
+list_line-requires c =
+    record {
+      n_in_bounds = widened_long c.args.book c.requires.0 _ c.list_groups.new.list c.list_groups.ensures _ c.widen.new.wide c.widen.ensures;
+      list_in_bounds =
+          leaders_room c.args.book c.requires.0 _ c.list_groups.new.list c.list_groups.ensures _ c.widen.new.wide c.widen.ensures _ c.requires.1;
+    }
 
 pub returns : goal.returns
 returns c =

@@ -7,10 +7,11 @@ use Rattle.pager.specs.Kinds.{form_of}
 use Rattle.pager.proofs.line.Goals as goal
 
 pub report_line-requires : goal.report_line-requires
-report_line-requires c = (
-  (c.requires.known.0, subst (λ (kind : Kind). c.args.i < (form_of kind).number c.args.book) c.in-Report.is c.requires.known.1),
-  c.requires.tally,
-)
+report_line-requires c =
+    record {
+      known = (c.requires.known.0, subst (λ (kind : Kind). c.args.i < (form_of kind).number c.args.book) c.in-Report.is c.requires.known.1);
+      tally = c.requires.tally;
+    }
 
 pub certificate_line-requires : goal.certificate_line-requires
 certificate_line-requires c = (

@@ -15,5 +15,5 @@ slice_bounds-page-end-2 c = sym (length-take-le 2048 c.args.buffer.now c.if-buff
 
 pub returns : goal.returns
 returns c =
-    next_of_page c.args.kind c.args.state c.args.buffer.now c.if-buffer-lt2048.false c.page-2.new.buffer c.page-2.auto.1.1.0
+    next_of_page c.args.kind c.args.state c.args.buffer.now c.if-buffer-lt2048.false c.page-2.new.buffer c.page-2.auto.buffer
     c.page-2.result.state c.page-2.result.answer c.page-2.ensures

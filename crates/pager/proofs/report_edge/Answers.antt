@@ -8,7 +8,7 @@ use Rattle.pager.proofs.report_edge.Goals as goal
 
 pub bounds-book-at : goal.bounds-book-at
 bounds-book-at c =
-    let few = (sound_head c.args.t1 c.requires.known.0.sound).edges in
+    let few = (sound_head c.args.book c.requires.known.0.sound).edges in
     search (rules, few)
 
 pub implied_line-requires : goal.implied_line-requires
@@ -17,7 +17,7 @@ implied_line-requires c =
       record {
         sound = known.sound;
         place = omega (arith, c.requires.known.1);
-        implied = forest_next c.args.t1 c.args.i 0 c.if-book-at-eq0.true;
+        implied = forest_next c.args.book c.args.i 0 c.if-book-at-eq0.true;
         who = known.who;
         size = known.size;
         tabled = known.tabled;
@@ -27,14 +27,15 @@ implied_line-requires c =
 
 pub returns-then-book-at-eq0 : goal.returns-then-book-at-eq0
 returns-then-book-at-eq0 c =
-    edge_implied c.args.t1 c.args.i c.if-book-at-eq0.true c.implied_line.ensures
+    edge_implied c.args.book c.args.i c.if-book-at-eq0.true c.implied_line.ensures
 
 pub kept_line-requires : goal.kept_line-requires
-kept_line-requires c = (
-  (c.requires.known.0.sound, (c.requires.known.1, forest_some c.args.t1 c.args.i c.if-book-at-eq0.false)),
-  c.requires.tally,
-)
+kept_line-requires c =
+    record {
+      sound = (c.requires.known.0.sound, (c.requires.known.1, forest_some c.args.book c.args.i c.if-book-at-eq0.false));
+      tally = c.requires.tally;
+    }
 
 pub returns : goal.returns
 returns c =
-    edge_kept c.args.t1 c.args.i c.requires.known.1 c.if-book-at-eq0.false c.kept_line.ensures
+    edge_kept c.args.book c.args.i c.requires.known.1 c.if-book-at-eq0.false c.kept_line.ensures

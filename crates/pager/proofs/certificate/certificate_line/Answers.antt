@@ -16,10 +16,11 @@ overflow_add-past c =
 pub book_line-requires : goal.book_line-requires
 book_line-requires c =
     let less = c.if-i-past.true in
-    let sound = c.requires.0.sound in (
-      (less, (sound_head c.args.book sound).edges),
-      book_line_room c.args.book sound c.args.i (length c.args.buffer.now) less c.requires.1.1,
-    )
+    let sound = c.requires.0.sound in
+    record {
+      i_bound = (less, (sound_head c.args.book sound).edges);
+      i_in_bounds = book_line_room c.args.book sound c.args.i (length c.args.buffer.now) less c.requires.1.1;
+    }
 
 pub returns-then-i-past : goal.returns-then-i-past
 returns-then-i-past c =

@@ -11,7 +11,7 @@ use Rattle.pager.proofs.certificate.forest_line.Goals as goal
 
 pub bounds-book-at : goal.bounds-book-at
 bounds-book-at c =
-    let few = (sound_head c.args.t1 c.requires.0.sound).edges in
+    let few = (sound_head c.args.book c.requires.0.sound).edges in
     search (rules, few)
 
 pub implied_line-requires : goal.implied_line-requires
@@ -20,7 +20,7 @@ implied_line-requires c =
       record {
         sound = known.sound;
         place = omega (arith, c.requires.1.0);
-        implied = forest_next c.args.t1 c.args.e 0 c.if-forest-eq0.true;
+        implied = forest_next c.args.book c.args.e 0 c.if-forest-eq0.true;
         who = known.who;
         size = known.size;
         tabled = known.tabled;
@@ -28,13 +28,13 @@ implied_line-requires c =
       c.requires.1.1,
     )
 
-pub returns : goal.returns
-returns c = forest_implied c.args.t1 c.args.e c.if-forest-eq0.true c.implied-line.ensures
+pub returns-then-forest-eq0 : goal.returns-then-forest-eq0
+returns-then-forest-eq0 c = forest_implied c.args.book c.args.e c.if-forest-eq0.true c.implied_line.ensures
 
 pub number_line-requires : goal.number_line-requires
 number_line-requires c =
-    number_line_room key_forest (get_or c.args.t1.forests c.args.e 0) _ (omega arith)
+    number_line_room key_forest (get_or c.args.book.forests c.args.e 0) _ (omega arith)
     (search rules) c.requires.1.1
 
 pub returns : goal.returns
-returns c = forest_kept c.args.t1 c.args.e c.if-forest-eq0.false c.number_line.ensures
+returns c = forest_kept c.args.book c.args.e c.if-forest-eq0.false c.number_line.ensures
