@@ -2,7 +2,7 @@
 ghost use Rattle.std.specs.Prelude.{◌≡◌, ◌≤◌};
 ghost use Rattle.rule.specs.Sets.{◌<?◌, count as counted, at};
 ghost use Rattle.rule.specs.Books.{design_of, kept_of, Sound};
-ghost use Rattle.rule.specs.Figures.{freedom as freedomOf, dropped as droppedOf, verdict_on};
+ghost use Rattle.rule.specs.Figures.{freedom as freedom_of, dropped as dropped_of, verdict_on};
 ghost use Rattle.rule.specs.Calls.{Freedom, Dropped, Judge};
 ghost use Rattle.book.specs.Checks.{figure_of, judged_of};
 
@@ -28,7 +28,7 @@ pub fn kept(count: u16, forests: &[u8; 512]) -> u16
 // The freedom of a sound book, and how many of its edges are implied.
 pub fn free_of(book: Book) -> u16
     requires { Sound book }
-    ensures { result ≡ freedomOf (design_of book) (kept_of book) }
+    ensures { result ≡ freedom_of (design_of book) (kept_of book) }
 {
     let a = book.a as u16;
     let b = book.b as u16;
@@ -39,7 +39,7 @@ pub fn free_of(book: Book) -> u16
 
 pub fn implied_of(book: Book) -> u16
     requires { Sound book }
-    ensures { result ≡ droppedOf (design_of book) (kept_of book) }
+    ensures { result ≡ dropped_of (design_of book) (kept_of book) }
 {
     let count = book.count;
     count - kept(count, &book.forests)
