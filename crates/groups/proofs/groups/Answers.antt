@@ -16,11 +16,11 @@ returns-in_default c =
 pub returns-then-list-lt64 : goal.returns-then-list-lt64
 returns-then-list-lt64 c =
     refused_short c.args.book c.args.list.now
-    (passed_sound c.args.book c.sound_alone-c.result c.in-Fine.is c.sound_alone-c.ensures) (omega (arith, c.if-list-lt64.true))
+    (passed_sound c.args.book c.sound_alone-c.result c.in-Fine.is c.sound_alone-c.ensures) (omega arith)
 
 pub list_groups-requires : goal.list_groups-requires
 list_groups-requires c =
-    (passed_sound c.args.book c.sound_alone-c.result c.in-Fine.is c.sound_alone-c.ensures, omega (arith, c.if-list-lt64.false))
+    (passed_sound c.args.book c.sound_alone-c.result c.in-Fine.is c.sound_alone-c.ensures, omega arith)
 
 pub returns : goal.returns
 returns c = c.list_groups.ensures
