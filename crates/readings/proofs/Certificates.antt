@@ -5,13 +5,13 @@
 -- `implied=` line begins like a `forest=` line; and that book is sound and grown from empty.
 -- Assumes nothing.
 use mathlib.Core.Path.{◌≡◌, sym, ap, ◌∙◌, subst}
-use mathlib.Core.Logic.{◌⊎◌, inl, inr, ⊎_elim, ◌↔◌}
+use mathlib.Core.Logic.{⊎_elim, ◌↔◌}
 use mathlib.Core.List.{List, [], ◌∷◌}
-use Prim.Native.Nat.{ℕ, ◌+◌, ◌≤◌, ◌<◌}
+use Prim.Native.Nat.{ℕ, ◌+◌, ◌≤◌}
 use native.Mathlib.Omega.{arith}
 use lib.ListN.{length, get_or}
 use Rattle.rule.specs.declared.Book.{Book}
-use Rattle.rule.specs.Sets.{Is, Set, In, ◌without◌, below}
+use Rattle.rule.specs.Sets.{Is, Set, In, below}
 use Rattle.rule.specs.Legal.{Design, k, Grown}
 use Rattle.rule.specs.Forests.{Loopless, limit, in_forest, Permitted}
 use Rattle.rule.specs.Books.{design_of, forest_of, kept_of}

@@ -3,8 +3,8 @@
 --
 -- Neither text is a book, being longer than 6,172 bytes, and the two are refused alike (`cut_same`, crate text).
 -- Assumes nothing.
-use mathlib.Core.Path.{◌≡◌, ap}
-use mathlib.Core.Logic.{◌⊎◌, inl, inr, ◌↔◌}
+use mathlib.Core.Path.{ap}
+use mathlib.Core.Logic.{inl, inr, ◌↔◌}
 use mathlib.Core.List.{List}
 use Prim.Native.Nat.{ℕ, ◌≤◌}
 use native.Mathlib.Omega.{arith}
@@ -15,7 +15,7 @@ use Rattle.text.proofs.Sizes.{sheet_size}
 use Rattle.text.proofs.Cuts.{read_room, cut_same}
 use Rattle.reports.specs.declared.Received.{Received}
 use Rattle.reports.specs.Reads.{Reads, Receives}
-use Rattle.reports.specs.Texts.{OnlyRefused, Report, Certificate}
+use Rattle.reports.specs.Texts.{Report, Certificate}
 
 no_book : {text : List ℕ} {B : Book} → read_room ≤ length text → ¬ Reads text B
 no_book long r = absurd (omega (arith, sheet_size r.sheet r.range, ap length r.is_text, long))

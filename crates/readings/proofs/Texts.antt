@@ -5,8 +5,8 @@
 -- text gives has the same design and keeps the same edges (Same.antt), and a report names nothing else. A certificate names forests, which
 -- the text does not determine: its lines are those of the one book that was read.
 -- Assumes nothing.
-use mathlib.Core.Path.{◌≡◌, sym, ap₂, ◌∙◌, subst, subst₂}
-use mathlib.Core.Logic.{◌⊎◌, inl, inr, ◌↔◌}
+use mathlib.Core.Path.{◌≡◌, sym, ap₂, ◌∙◌, subst₂}
+use mathlib.Core.Logic.{inl, inr, ◌↔◌}
 use mathlib.Core.List.{List}
 use Prim.Native.Nat.{ℕ, ◌<◌}
 use native.Mathlib.Omega.{arith}
@@ -19,7 +19,7 @@ use Rattle.text.specs.Faults.{RefusedAt}
 use Rattle.reports.specs.declared.Received.{Received}
 use Rattle.reports.specs.Reads.{Reads, Receives}
 use Rattle.reports.specs.Reports.{ReportLine, refused_line}
-use Rattle.reports.specs.Steps.{Form, report, certificate, lines_of, LineOf}
+use Rattle.reports.specs.Steps.{report, certificate, lines_of, LineOf}
 use Rattle.reports.specs.Texts.{OnlyRefused, Report, CertificateOf}
 use Rattle.reports.proofs.Sections.{Determined}
 use Rattle.readings.proofs.Reading.{reads_grew}

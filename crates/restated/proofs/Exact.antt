@@ -7,14 +7,11 @@
 use mathlib.Core.Path.{◌≡◌, sym, ◌∙◌}
 use mathlib.Core.Logic.{◌⊎◌, inl, inr, ◌↔◌}
 use mathlib.Core.List.{List}
-use Prim.Native.Nat.{ℕ, ◌≤◌}
-use lib.ListN.{length}
+use Prim.Native.Nat.{ℕ}
 use Rattle.rule.specs.declared.Book.{Book}
 use Rattle.rule.specs.declared.Answer.{Answer}
 use Rattle.rule.specs.declared.Answer.TheVariants.{Kept, Implied, Refused}
-use Rattle.rule.specs.Sets.{In}
-use Rattle.rule.specs.Books.{Edge, Sound}
-use Rattle.rule.specs.Reasons.{Pass, circuit_room, question_checks, offer_checks}
+use Rattle.rule.specs.Books.{Edge}
 use Rattle.rule.specs.Calls.{KeepsIt, ImpliesIt, Offer, Question}
 use Rattle.rule.proofs.Passed.{Asked, passed_offer, passed_question}
 use Rattle.rule.proofs.Outcomes.{AnswersAgree}

@@ -37,4 +37,4 @@ number_line-requires c =
     (search rules) c.requires.1.1
 
 pub returns : goal.returns
-returns c = forest_kept c.args.book c.args.e c.if-forest-eq0.false c.number_line.ensures
+returns c = forest_kept c.args.book c.args.e (omega arith) c.number_line.ensures
