@@ -2,7 +2,6 @@
 use mathlib.Core.Path.{◌≡◌, refl, ◌∙◌, subst}
 use mathlib.Core.Bool.{Bool, true, false}
 use mathlib.Core.List.{[]}
-use Prim.Native.Nat.{◌-◌}
 use Rattle.printing.specs.Sending.{TurnSent}
 use Rattle.printing.proofs.Turns.{under_way_first, under_way_turn, last_turn, under_way_again, fewer_left}
 use Rattle.printing.proofs.send_pages.Goals as goal
@@ -33,4 +32,4 @@ loop-sent-preserved c =
     let turn : (last : Bool) → c.send_page-turn.result.last ≡ last
     → TurnSent c.loop-sent.sent c.send_page-turn.result.sent last =
     λ last q. subst (TurnSent c.loop-sent.sent c.send_page-turn.result.sent) q c.send_page-turn.ensures in
-    ((_, under_way_again _ c.requires.1 c.loop-sent.invariant.0.1 _ (turn false c.if-turn.false)), c.send_page-turn.auto.1.0 ∙ c.loop-sent.invariant.1)
+    ((_, under_way_again _ c.requires.1 c.loop-sent.invariant.0.1 _ (turn false c.if-turn.false)), c.send_page-turn.auto.buffer ∙ c.loop-sent.invariant.1)
