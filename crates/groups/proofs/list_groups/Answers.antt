@@ -19,7 +19,7 @@ classes-requires c =
     let bodies : c.wide-n.result ≤ 64 = omega (arith, (sound_head book sound).bodies.high, c.wide-n.ensures) in
     record {
       groups_given = book_given book sound;
-      red_bound = (few, (few, few));
+      red_bound = (omega (arith, few), (few, few));
       forests_len = (forests_long, (bodies, omega (arith, c.requires.1, bodies)));
     }
 

@@ -1,4 +1,4 @@
--- `book::kept`: so far, the placed ones of the first e edges are counted. The test is read as what it says of the forest, not by how it is written.
+-- `book::kept`: so far, the placed ones of the first e edges are counted.
 use mathlib.Core.Path.{◌≡◌, ◌∙◌, subst}
 use Prim.Native.Nat.{ℕ}
 use native.Mathlib.Omega.{arith}
