@@ -1,12 +1,11 @@
--- `book::kept`: so far, the placed ones of the first e edges are counted.
-use mathlib.Core.Path.{◌≡◌, ◌∙◌, subst}
+-- `book::kept`: so far, the placed ones of the first e edges are counted. The test is read as what it says of the forest, not by how it is written.
+use mathlib.Core.Path.{◌≡◌, subst}
 use Prim.Native.Nat.{ℕ}
 use native.Mathlib.Omega.{arith}
 use Rattle.rule.specs.Sets.{count as counted}
 use Rattle.rule.proofs.Counting.{count_le}
 use Rattle.book.proofs.Figures.{placed, one_placed, none_placed}
 use Rattle.book.proofs.tally.kept.Goals as goal
-use Rattle.book.proofs.tally.kept.Goals.{then-forests-e-ne0, else-forests-e-ne0}
 
 pub loop-e-init : goal.loop-e-init
 loop-e-init c = (omega arith, omega (arith, count_le (placed c.args.forests.now) 0))
@@ -17,13 +16,9 @@ overflow_add-found c =
 
 pub loop-e-preserved : goal.loop-e-preserved
 loop-e-preserved c =
-    let forests = c.args.forests.now in (
-      omega (arith, c.loop-e-test.true),
-      elim c.if-forests-e-ne0.branch [
-        | then-forests-e-ne0 w ↦ w.found-is ∙ one_placed forests c.loop-e.e c.loop-e.found c.loop-e.invariant.1 (omega (arith, w.if-forests-e-ne0.true))
-        | else-forests-e-ne0 w ↦ w.found-is ∙ none_placed forests c.loop-e.e c.loop-e.found c.loop-e.invariant.1 (omega (arith, w.if-forests-e-ne0.false))
-      ],
-    )
+    let forests = c.args.forests.now in
+    let one = one_placed forests c.loop-e.e c.loop-e.found c.loop-e.invariant.1 in
+    let none = none_placed forests c.loop-e.e c.loop-e.found c.loop-e.invariant.1 in (omega arith, grind (arith, one, none))
 
 pub returns : goal.returns
 returns c =
