@@ -4,32 +4,37 @@
 -- Assumes nothing.
 use mathlib.Core.Path.{◌≡◌, refl, sym, ◌∙◌, subst}
 use mathlib.Core.Bool.{Bool, true, false, false≢true}
-use mathlib.Core.List.{List}
+use Rattle.std.specs.Prelude.{Some, None}
 use Prim.Native.Nat.{ℕ, suc, ◌+◌, ◌≤◌, ◌<◌}
 use native.Mathlib.Numerals.{add-one}
 use native.Mathlib.Omega.{arith}
 use lib.ListN.{get_or}
 use Rattle.rule.specs.declared.Book.{Book}
+use Rattle.rule.specs.declared.Edge.{Edge}
 use Rattle.rule.specs.Sets.{Is, In, below, at}
 use Rattle.rule.specs.Forests.{Chain, in_forest, limit, Permitted, NoneCloses}
-use Rattle.rule.specs.Books.{edge_of, design_of, forest_of, HeadRule, EdgeRule}
+use Rattle.rule.specs.Books.{the_edge, edge_of, design_of, forest_of, HeadRule, EdgeRule}
 use Rattle.rule.proofs.Tests.{eq_of, in_split, below_in, below_lt, below_make}
 use Rattle.rule.proofs.Loops.{chain_mono, none_closes_loopless}
 use Rattle.theory.specs.Joined.{joined, spans}
 use Rattle.theory.proofs.Joined.Chains.{joined_chain, chain_joined}
 use Rattle.theory.proofs.Joined.Acyclic.{Acyclic, loopless_acyclic}
 use Rattle.theory.proofs.Legal.Kept.{forest_make}
-use Rattle.tables.specs.Tables.{label, Tabled}
-use Rattle.planting.specs.Calls.{Sized}
+use Rattle.tables.specs.declared.Tables.{Tables}
+use Rattle.tables.specs.Tables.{label}
+use Rattle.tables.specs.Held.{Holds}
 use Rattle.planting.proofs.Few.{room_left}
 use Rattle.labels.specs.Labels.{Begun}
-use Rattle.book.specs.Scan.{EdgeFine, Plantable, EdgePlanted, Cleared, FirstEdge, Scanned}
+use Rattle.book.specs.Scan.{EdgeFine, Plantable, EdgePlanted, Cleared, Scanned}
 use Rattle.book.proofs.Edges.{permits_most}
 use Rattle.book.proofs.UpTo.{up_to, upto_past, upto_most, upto_stands, upto_below, below_upto, upto_more, tabled_none, tabled_all}
 
--- the numbers of edge i + 1
+-- edge i + 1 and its forest, as the scan reads them
+abbrev pub edge_read : Book → (i : ℕ) → Edge
+edge_read B i = the_edge (get_or B.ones i 0) (get_or B.others i 0) (get_or B.colours i 0)
+
 abbrev pub FineAt : Book → (i : ℕ) → Type 0
-FineAt B i = EdgeFine B.a B.b B.n (get_or B.ones i 0) (get_or B.others i 0) (get_or B.colours i 0) (get_or B.forests i 0)
+FineAt B i = EdgeFine B (edge_read B i) (get_or B.forests i 0)
 
 pub rule_fine : (B : Book) (i : ℕ) → EdgeRule B (suc i) → FineAt B i
 unfolding edge_of design_of Permitted limit at
@@ -52,44 +57,35 @@ fine_rule B i r none =
       closes_none = none;
     }
 
-pub record Scanning (B : Book) (e : ℕ) (root way who edge size : List ℕ) : Type 0 where
+pub record Scanning (B : Book) (e : ℕ) (T : Tables) : Type 0 where
   pub most : e ≤ B.count
   pub obey : (i : ℕ) → In e i → EdgeRule B i
-  pub sized : Sized root way who edge size
-  pub tabled : Tabled (design_of B) (up_to (forest_of B) e) root way who edge size
+  pub tabled : Holds (design_of B) (up_to (forest_of B) e) T
 
-pub scanning_none : (B : Book) (root way who edge size : List ℕ) → Sized root way who edge size → Begun root who → Cleared size
-    → Scanning B 0 root way who edge size
-scanning_none B root way who edge size sized begun clear =
+pub scanning_none : (B : Book) (T : Tables) → Begun T.labels.root T.labels.who → Cleared T.size → Scanning B 0 T
+scanning_none B T begun clear =
     record {
       most = omega arith;
       obey = λ i h. absurd (omega (arith, h.low, h.high));
-      sized = sized;
-      tabled = tabled_none (design_of B) (forest_of B) root way who edge size begun clear;
+      tabled = tabled_none (design_of B) (forest_of B) T.labels.root T.way T.labels.who T.edge T.size begun clear;
     }
 
-module _ (B : Book) (e : ℕ) (root way who edge size : List ℕ) (inv : Scanning B e root way who edge size) where
-  pub scanned_all : B.count ≤ e → Scanned B 0 root way who edge size
+module _ (B : Book) (e : ℕ) (T : Tables) (inv : Scanning B e T) where
+  pub scanned_all : B.count ≤ e → Scanned B None T
   unfolding design_of
-  scanned_all l =
-      record {
-        sized = inv.sized;
-        first = (λ i h. inv.obey i (omega (arith, h.low, h.high)), tabled_all (design_of B) (forest_of B) root way who edge size e l inv.tabled);
-      }
+  scanned_all l = (
+    λ i h. inv.obey i (omega (arith, h.low, h.high)),
+    tabled_all (design_of B) (forest_of B) T.labels.root T.way T.labels.who T.edge T.size e l inv.tabled,
+  )
 
   module _ (less : e < B.count) where
     -- the next edge breaks its rule
-    pub breaks : (root' way' who' edge' size' : List ℕ) → Sized root' way' who' edge' size' → ¬ EdgeRule B (suc e)
-        → Scanned B (e + 1) root' way' who' edge' size'
-    breaks root' way' who' edge' size' sized not =
-        record {
-          sized = sized;
-          first =
-              subst (λ (z : ℕ). FirstEdge B z (Tabled (design_of B) (forest_of B) root' way' who' edge' size')) (sym (add-one e)) (less, (not, inv.obey));
-        }
+    pub breaks : (T' : Tables) → ¬ EdgeRule B (suc e) → Scanned B (Some (e + 1)) T'
+    breaks T' not =
+        subst (λ (z : ℕ). Scanned B (Some z) T') (sym (add-one e)) (omega arith, (not, λ i low high. inv.obey i (omega arith)))
 
-    pub not_fine : ¬ FineAt B e → Scanned B (e + 1) root way who edge size
-    not_fine not = breaks root way who edge size inv.sized (λ r. not (rule_fine B e r))
+    pub not_fine : ¬ FineAt B e → (T' : Tables) → Scanned B (Some (e + 1)) T'
+    not_fine not T' = breaks T' (λ r. not (rule_fine B e r))
 
     -- ---- an edge whose numbers are fine
 
@@ -137,7 +133,7 @@ module _ (B : Book) (e : ℕ) (root way who edge size : List ℕ) (inv : Scannin
       edge_next = omega arith
 
       -- what planting needs: there is room where the ends have two labels
-      pub plantable : Plantable (get_or B.ones e 0) (get_or B.others e 0) (get_or B.forests e 0) root way who edge size
+      pub plantable : Plantable (edge_read B e) (get_or B.forests e 0) T
       unfolding edge_of design_of spans at
       plantable =
           let bodies = head.bodies.high in
@@ -149,39 +145,37 @@ module _ (B : Book) (e : ℕ) (root way who edge size : List ℕ) (inv : Scannin
             room =
                 λ low ne.
                 let hf : In 6 f = omega (arith, in_forests) in
-                room_left (design_of B) so_far f (suc e) edge size (inv.tabled.slots f hf) head.bodies
+                room_left (design_of B) so_far f (suc e) T.edge T.size (inv.tabled.slots f hf) head.bodies
                 (λ z hz t. let r = (inv.obey z (omega (arith, hz.low, upto_most (forest_of B) e f z low t))).range in (r.one, r.other)) (loop_free f low) edge_next
                 (fine.one, fine.other)
-                (λ h. ne (eq_of (label root f u) (label root f v) ((inv.tabled.labels f hf).same u v (omega (arith, fine.one)) (omega (arith, fine.other)) ∙ h)));
-            sized = inv.sized;
+                (λ h. ne (eq_of (label T.labels.root f u) (label T.labels.root f v) ((inv.tabled.labels f hf).same u v (omega (arith, fine.one)) (omega (arith, fine.other)) ∙ h)));
           }
 
-      module _ (root' way' who' edge' size' : List ℕ) (answer : Bool)
-          (out : EdgePlanted (get_or B.ones e 0) (get_or B.others e 0) (get_or B.forests e 0) (e + 1) root way who edge size root' way' who' edge' size' answer) where
+      module _ (T' : Tables) (answer : Bool) (out : EdgePlanted (edge_read B e) (get_or B.forests e 0) (e + 1) T T' answer) where
         -- the edge closes a loop: a chain of smaller edges of its forest joins its ends
-        pub stops : answer ≡ false → Scanned B (e + 1) root' way' who' edge' size'
+        pub stops : answer ≡ false → Scanned B (Some (e + 1)) T'
         unfolding at
         stops h =
             let loop = out.closes (λ t. false≢true (sym h ∙ t)) in
-            breaks root' way' who' edge' size' out.sized
+            breaks T'
             (λ r.
             r.closes_none loop.0
             (chain_mono (design_of B) (upto_below (forest_of B) e (design_of B).m f loop.0)
             (joined_chain (design_of B) (in_forest so_far f) u v (loop.1 (design_of B) so_far inv.tabled))))
 
         more_tables : Is answer
-            → Tabled (design_of B) (up_to (forest_of B) (suc e)) root' way' who' edge' size' × (1 ≤ f → ¬ (Is (joined (design_of B) (in_forest so_far f) u v)))
+            → Holds (design_of B) (up_to (forest_of B) (suc e)) T' × (1 ≤ f → ¬ (Is (joined (design_of B) (in_forest so_far f) u v)))
         unfolding design_of at
         more_tables h =
-            let p = subst (λ (z : ℕ). EdgePlanted u v f z root way who edge size root' way' who' edge' size' answer) (add-one e) out in
+            let p = subst (λ (z : ℕ). EdgePlanted (edge_read B e) f z T T' answer) (add-one e) out in
             let new = p.tabled h (design_of B) so_far edge_next (upto_past (forest_of B) e (suc e) (omega arith)) refl refl inv.tabled in
-            (subst (λ (g : ℕ → ℕ). Tabled (design_of B) g root' way' who' edge' size') (sym (upto_more (forest_of B) e)) new.0, new.1)
+            (subst (λ (g : ℕ → ℕ). Holds (design_of B) g T') (sym (upto_more (forest_of B) e)) new.0, new.1)
 
-        pub scanning_more : answer ≡ true → Scanning B (e + 1) root' way' who' edge' size'
+        pub scanning_more : answer ≡ true → Scanning B (e + 1) T'
         unfolding design_of at
         scanning_more h =
             let new = more_tables h in
-            subst (λ (z : ℕ). Scanning B z root' way' who' edge' size') (sym (add-one e))
+            subst (λ (z : ℕ). Scanning B z T') (sym (add-one e))
             (record {
               most = less;
               obey =
@@ -193,6 +187,5 @@ module _ (B : Book) (e : ℕ) (root way who edge size : List ℕ) (inv : Scannin
                   (λ low c.
                   new.1 low
                   (chain_joined (design_of B) (in_forest so_far f) u v (chain_mono (design_of B) (below_upto (forest_of B) e (design_of B).m f) c)))));
-              sized = out.sized;
               tabled = new.0;
             })

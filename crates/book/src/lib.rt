@@ -7,17 +7,17 @@
 
 mod tally;
 
-ghost use Rattle.std.specs.Prelude.{◌≡◌, ◌↔◌, List, ℕ, ◌≤◌, ◌<◌, length, get_or};
+ghost use Rattle.std.specs.Prelude.{◌≡◌, ◌↔◌, List, ℕ, ◌≤◌, ◌<◌, length};
 ghost use Rattle.rule.specs.Sets.{Is, In};
-ghost use Rattle.rule.specs.Books.{ColourRange, the_edge};
+ghost use Rattle.rule.specs.Books.{HeadRule, ColourRange, the_edge};
 ghost use Rattle.rule.specs.Reasons.{question_checks, offer_checks, book_checks};
 ghost use Rattle.rule.specs.Calls.{new_book, Open};
-ghost use Rattle.planting.specs.Calls.{Sized};
 ghost use Rattle.book.specs.Checks.{edge_checks, HoldsForests, FoundBy};
-ghost use Rattle.book.specs.Scan.{HeadFine, Permits, EdgeFine, Plantable, EdgePlanted, Cleared, scanned_book, Scannable, Scanned};
+ghost use Rattle.book.specs.Scan.{Permits, EdgeFine, Plantable, EdgePlanted, Cleared, Scanned};
 
-use rule::{Book, Done, Reason};
-pub use tally::{dropped, free_of, freedom, implied_of, judge, kept, no_figure, verdict};
+use rule::{Book, Edge, Reason};
+use tables::Tables;
+pub use tally::{dropped, free_of, freedom, implied_of, judge, kept, verdict};
 
 // ---- numbers in range
 
@@ -37,9 +37,11 @@ fn both_among(m: usize, i: usize, j: usize) -> bool
 
 // ---- opening
 
+// What an opening answers, and the book.
+// (A struct and no `Result` over the book: a refused opening gives a book of zeros, as `Open` says; docs/DECISIONS.md, point 8.)
 #[derive(Clone, Copy)]
 pub struct Opened {
-    pub answer: Done,
+    pub answer: Result<(), Reason>,
     pub book: Book,
 }
 
@@ -47,158 +49,127 @@ pub struct Opened {
 pub fn new_book(a: u8, b: u8, n: u8) -> Book
     ensures { result ≡ new_book a b n }
 {
-    let zeros = [0u8; 512];
     Book {
-        a: a,
-        b: b,
-        n: n,
+        a,
+        b,
+        n,
         count: 0,
-        ones: zeros,
-        others: zeros,
-        colours: zeros,
-        forests: zeros,
+        ones: [0; 512],
+        others: [0; 512],
+        colours: [0; 512],
+        forests: [0; 512],
     }
 }
 
+// (`as`: the numbers are in range by then, and u8 has no `From<usize>`.)
 pub fn open(a: usize, b: usize, n: usize) -> Opened
     ensures { Open a b n result.book result.answer }
 {
     if !both_among(3, a, b) {
         return Opened {
-            answer: Done::Refused(Reason::Profile),
+            answer: Err(Reason::Profile),
             book: new_book(0, 0, 0),
         };
     }
     if !among(64, n) {
         return Opened {
-            answer: Done::Refused(Reason::Bodies),
+            answer: Err(Reason::Bodies),
             book: new_book(0, 0, 0),
         };
     }
     Opened {
-        answer: Done::Fine,
+        answer: Ok(()),
         book: new_book(a as u8, b as u8, n as u8),
     }
 }
 
 // ---- the soundness scan
 
-fn head_fine(a: u8, b: u8, n: u8, count: u16) -> bool
-    ensures { Is result ↔ HeadFine a b n count }
+fn head_fine(book: &Book) -> bool
+    ensures { Is result ↔ HeadRule book.now }
 {
-    if !both_among(3, a as usize, b as usize) {
+    if !both_among(3, usize::from(book.a), usize::from(book.b)) {
         return false;
     }
-    if !among(64, n as usize) {
+    if !among(64, usize::from(book.n)) {
         return false;
     }
-    count <= 512
+    book.count <= 512
 }
 
 // The forest number is one that the colour may have.
-fn permitted(a: u8, b: u8, colour: u8, forest: u8) -> bool
-    requires { (a ≤ 3) × (b ≤ 3) }
-    ensures { Is result ↔ Permits a b colour forest }
+fn permitted(book: &Book, colour: u8, forest: u8) -> bool
+    requires { (book.now.a ≤ 3) × (book.now.b ≤ 3) }
+    ensures { Is result ↔ Permits book.now.a book.now.b colour forest }
 {
     if colour == 1 {
-        return forest <= a;
+        return forest <= book.a;
     }
-    colour == 2 && forest <= a + b
+    colour == 2 && forest <= book.a + book.b
 }
 
-// The edge has two different bodies in 1 to n, a colour and a permitted forest number.
-fn edge_fine(a: u8, b: u8, n: u8, u: u8, v: u8, colour: u8, forest: u8) -> bool
-    requires { (a ≤ 3) × (b ≤ 3) }
-    ensures { Is result ↔ EdgeFine a b n u v colour forest }
+// The edge has two different bodies of the book, a colour and a permitted forest number.
+fn edge_fine(book: &Book, edge: Edge, forest: u8) -> bool
+    requires { (book.now.a ≤ 3) × (book.now.b ≤ 3) }
+    ensures { Is result ↔ EdgeFine book.now edge forest }
 {
-    if !among(n as usize, u as usize) {
+    let n = usize::from(book.n);
+    if !both_among(n, usize::from(edge.one), usize::from(edge.other)) {
         return false;
     }
-    if !among(n as usize, v as usize) {
+    if edge.one == edge.other {
         return false;
     }
-    if u == v {
-        return false;
-    }
-    permitted(a, b, colour, forest)
+    permitted(book, edge.colour, forest)
 }
 
-// Edge e, between u and v, is added to its forest, where it has one; false where it closes a loop.
-fn plant(
-    e: u16,
-    u: u8,
-    v: u8,
-    forest: u8,
-    root: &mut [u8; 384],
-    way: &mut [u64; 384],
-    who: &mut [u64; 384],
-    edge: &mut [u16; 384],
-    size: &mut [u8; 6],
-) -> bool
-    requires { Plantable u v forest root.old way.old who.old edge.old size.old }
-    ensures { EdgePlanted u v forest e root.old way.old who.old edge.old size.old root.new way.new who.new edge.new size.new result }
+// Edge e is added to its forest, where it has one; false where it closes a loop.
+fn plant(e: u16, edge: Edge, forest: u8, tables: &mut Tables) -> bool
+    requires { Plantable edge forest tables.old }
+    ensures { EdgePlanted edge forest e tables.old tables.new result }
 {
     if forest == 0 {
         return true;
     }
-    let f = forest as usize;
-    let x = u as usize;
-    let y = v as usize;
-    if tables::joined(root, f, x, y) {
+    let f = usize::from(forest);
+    let x = usize::from(edge.one);
+    let y = usize::from(edge.other);
+    if tables.labels.joined(f, x, y) {
         return false;
     }
-    planting::add(f, x, y, e, root, way, who, edge, size);
+    planting::add(f, x, y, e, tables);
     true
 }
 
 // No slot is filled.
 fn clear(size: &mut [u8; 6])
-    requires { length size.old ≡ 6 }
     ensures { Cleared size.new }
 {
-    let mut i: usize = 0;
-    while i < 6 {
-        size[i] = 0;
-        i = i + 1;
-    }
+    *size = [0; 6];
 }
 
-// The first edge that breaks its rule, or 0 where none does, and then the tables hold the forests.
-pub fn scan<'a>(
-    a: u8,
-    b: u8,
-    n: u8,
-    count: u16,
-    ones: &'a [u8; 512],
-    others: &'a [u8; 512],
-    colours: &'a [u8; 512],
-    forests: &'a [u8; 512],
-    root: &mut [u8; 384],
-    way: &mut [u64; 384],
-    who: &mut [u64; 384],
-    edge: &mut [u16; 384],
-    size: &mut [u8; 6],
-) -> u16
-    requires { Scannable (scanned_book a b n count ones.now others.now colours.now forests.now) root.old way.old who.old edge.old size.old }
-    ensures { Scanned (scanned_book a b n count ones.now others.now colours.now forests.now) result root.new way.new who.new edge.new size.new }
+// The first edge that breaks its rule, or none, and then the tables hold the forests.
+// (A labelled `loop` that yields the number: docs/DECISIONS.md, "The forms that 01 names", has this form for the scan.)
+pub fn scan(book: &Book, tables: &mut Tables) -> Option<u16>
+    requires { HeadRule book.now }
+    ensures { Scanned book.now result tables.new }
 {
-    labels::begin(root, who);
-    clear(size);
+    labels::begin(&mut tables.labels);
+    clear(&mut tables.size);
     let mut e: u16 = 0;
     let place = 'scan: loop {
-        if count <= e {
-            break 'scan 0;
+        if book.count <= e {
+            break 'scan None;
         }
-        let i = e as usize;
-        e = e + 1;
-        let u = ones[i];
-        let v = others[i];
-        let forest = forests[i];
-        if !edge_fine(a, b, n, u, v, colours[i], forest) {
-            break 'scan e;
+        let i = usize::from(e);
+        e += 1;
+        let edge = book.edge(i);
+        let forest = book.forests[i];
+        if !edge_fine(book, edge, forest) {
+            break 'scan Some(e);
         }
-        if !plant(e, u, v, forest, root, way, who, edge, size) {
-            break 'scan e;
+        if !plant(e, edge, forest, tables) {
+            break 'scan Some(e);
         }
     };
     place
@@ -206,51 +177,17 @@ pub fn scan<'a>(
 
 // ---- the checks
 
-// What the checks of a call answer.
-#[derive(Clone, Copy)]
-pub enum Checked {
-    Fine,
-    Refused(Reason),
-}
-
 // Check 8: the book is sound, and then the tables hold its forests.
-pub fn sound(
-    book: Book,
-    root: &mut [u8; 384],
-    way: &mut [u64; 384],
-    who: &mut [u64; 384],
-    edge: &mut [u16; 384],
-    size: &mut [u8; 6],
-) -> Checked
-    requires { Sized root.old way.old who.old edge.old size.old }
-    ensures { FoundBy (book_checks book) (HoldsForests book root.new way.new who.new edge.new size.new) result }
+pub fn sound(book: &Book, tables: &mut Tables) -> Result<(), Reason>
+    ensures { FoundBy (book_checks book.now) (HoldsForests book.now tables.new) result }
 {
-    let a = book.a;
-    let b = book.b;
-    let n = book.n;
-    let count = book.count;
-    if !head_fine(a, b, n, count) {
-        return Checked::Refused(Reason::Unsound(0));
+    if !head_fine(book) {
+        return Err(Reason::Unsound(0));
     }
-    let place = scan(
-        a,
-        b,
-        n,
-        count,
-        &book.ones,
-        &book.others,
-        &book.colours,
-        &book.forests,
-        root,
-        way,
-        who,
-        edge,
-        size,
-    );
-    if place == 0 {
-        return Checked::Fine;
+    match scan(book, tables) {
+        None => Ok(()),
+        Some(place) => Err(Reason::Unsound(place)),
     }
-    Checked::Refused(Reason::Unsound(place))
 }
 
 fn coloured(colour: usize) -> bool
@@ -260,83 +197,69 @@ fn coloured(colour: usize) -> bool
 }
 
 // The checks 5, 3, 4 and 7 of an edge that is offered to a book of n bodies, with a list of so many places.
-fn asked(n: u8, u: usize, v: usize, colour: usize, places: usize) -> Checked
+// (Here and below three numbers and no `Edge`: a call's numbers may be of any size, and an edge holds bytes; docs/DECISIONS.md, points 7 and 54.)
+fn asked(n: u8, u: usize, v: usize, colour: usize, places: usize) -> Result<(), Reason>
     ensures { (list : List ℕ) → length list ≡ places → FoundBy (edge_checks n (the_edge u v colour) list) Unit result }
 {
     if !coloured(colour) {
-        return Checked::Refused(Reason::Colour);
+        return Err(Reason::Colour);
     }
-    if !both_among(n as usize, u, v) {
-        return Checked::Refused(Reason::Body);
+    if !both_among(usize::from(n), u, v) {
+        return Err(Reason::Body);
     }
     if u == v {
-        return Checked::Refused(Reason::SameBody);
+        return Err(Reason::SameBody);
     }
     if places < 378 {
-        return Checked::Refused(Reason::Short);
+        return Err(Reason::Short);
     }
-    Checked::Fine
+    Ok(())
 }
 
 // The checks of a question: 8, 5, 3, 4, 7. Where all pass, the tables hold the book's forests.
+// (A `let .. else` and no `?`: docs/DECISIONS.md, "The forms that 01 names", has this form for the shared checks.)
 pub fn question_checks(
-    book: Book,
+    book: &Book,
     u: usize,
     v: usize,
     colour: usize,
     places: usize,
-    root: &mut [u8; 384],
-    way: &mut [u64; 384],
-    who: &mut [u64; 384],
-    edge: &mut [u16; 384],
-    size: &mut [u8; 6],
-) -> Checked
-    requires { Sized root.old way.old who.old edge.old size.old }
-    ensures { (list : List ℕ) → length list ≡ places → FoundBy (question_checks book (the_edge u v colour) list) (HoldsForests book root.new way.new who.new edge.new size.new) result }
+    tables: &mut Tables,
+) -> Result<(), Reason>
+    ensures { (list : List ℕ) → length list ≡ places → FoundBy (question_checks book.now (the_edge u v colour) list) (HoldsForests book.now tables.new) result }
 {
-    let c = sound(book, root, way, who, edge, size);
-    let Checked::Fine = c else {
-        return c;
+    let checked = sound(book, tables);
+    let Ok(()) = checked else {
+        return checked;
     };
-    let n = book.n;
-    asked(n, u, v, colour, places)
+    asked(book.n, u, v, colour, places)
 }
 
 // The checks of an offer: the same, and then 6.
 pub fn offer_checks(
-    book: Book,
+    book: &Book,
     u: usize,
     v: usize,
     colour: usize,
     places: usize,
-    root: &mut [u8; 384],
-    way: &mut [u64; 384],
-    who: &mut [u64; 384],
-    edge: &mut [u16; 384],
-    size: &mut [u8; 6],
-) -> Checked
-    requires { Sized root.old way.old who.old edge.old size.old }
-    ensures { (list : List ℕ) → length list ≡ places → FoundBy (offer_checks book (the_edge u v colour) list) (HoldsForests book root.new way.new who.new edge.new size.new) result }
+    tables: &mut Tables,
+) -> Result<(), Reason>
+    ensures { (list : List ℕ) → length list ≡ places → FoundBy (offer_checks book.now (the_edge u v colour) list) (HoldsForests book.now tables.new) result }
 {
-    let c = question_checks(book, u, v, colour, places, root, way, who, edge, size);
-    let Checked::Fine = c else {
-        return c;
+    let checked = question_checks(book, u, v, colour, places, tables);
+    let Ok(()) = checked else {
+        return checked;
     };
-    let count = book.count;
-    if count < 512 {
-        return Checked::Fine;
+    if book.count < 512 {
+        return Ok(());
     }
-    Checked::Refused(Reason::Full)
+    Err(Reason::Full)
 }
 
 // Check 8 alone, with tables of its own.
-pub fn sound_alone(book: Book) -> Checked
-    ensures { FoundBy (book_checks book) Unit result }
+pub fn sound_alone(book: &Book) -> Result<(), Reason>
+    ensures { FoundBy (book_checks book.now) Unit result }
 {
-    let mut root = [0u8; 384];
-    let mut way = [0u64; 384];
-    let mut who = [0u64; 384];
-    let mut edge = [0u16; 384];
-    let mut size = [0u8; 6];
-    sound(book, &mut root, &mut way, &mut who, &mut edge, &mut size)
+    let mut tables = Tables::new();
+    sound(book, &mut tables)
 }

@@ -4,64 +4,38 @@ ghost use Rattle.rule.specs.Sets.{◌<?◌, count as counted, at};
 ghost use Rattle.rule.specs.Books.{design_of, kept_of, Sound};
 ghost use Rattle.rule.specs.Figures.{freedom as freedom_of, dropped as dropped_of, verdict_on};
 ghost use Rattle.rule.specs.Calls.{Freedom, Dropped, Judge};
-ghost use Rattle.book.specs.Checks.{figure_of, judged_of};
 
-use crate::{Checked, sound_alone};
-use rule::{Book, Figure, Judged, Verdict};
+use crate::sound_alone;
+use rule::{Book, Reason, Verdict};
 
-// How many of the first edges have a forest.
+// How many of the first edges have a forest. (A count and the whole list, not a part of it: `counted .. count` is over the book's list, as the callers' clauses
+// are. `as`: at most 512, and u16 has no `From<usize>`.)
 pub fn kept(count: u16, forests: &[u8; 512]) -> u16
     requires { count ≤ 512 }
     ensures { result ≡ counted (λ e. 0 <? at forests.now e) count }
 {
-    let mut found: u16 = 0;
-    let mut e: u16 = 0;
-    while e < count {
-        if forests[e as usize] != 0 {
-            found = found + 1;
-        }
-        e = e + 1;
-    }
-    found
+    let first = &forests[..usize::from(count)];
+    first.iter().filter(|forest| **forest != 0).count() as u16
 }
 
-// The freedom of a sound book, and how many of its edges are implied.
-pub fn free_of(book: Book) -> u16
-    requires { Sound book }
-    ensures { result ≡ freedom_of (design_of book) (kept_of book) }
+// The freedom of a sound book, and how many of its edges are implied. (`Sound` is a `requires` of both, of `list_groups` in crate groups and of `text_of` in crate
+// writer, and no type: these crates are a host's to call, and a type would ask it to build one. Crate pager has one inside, `Source`.)
+pub fn free_of(book: &Book) -> u16
+    requires { Sound book.now }
+    ensures { result ≡ freedom_of (design_of book.now) (kept_of book.now) }
 {
-    let a = book.a as u16;
-    let b = book.b as u16;
-    let n = book.n as u16;
-    let count = book.count;
-    (a + b) * (n - 1) - kept(count, &book.forests)
+    let a = u16::from(book.a);
+    let b = u16::from(book.b);
+    let n = u16::from(book.n);
+    (a + b) * (n - 1) - kept(book.count, &book.forests)
 }
 
-pub fn implied_of(book: Book) -> u16
-    requires { Sound book }
-    ensures { result ≡ dropped_of (design_of book) (kept_of book) }
+pub fn implied_of(book: &Book) -> u16
+    requires { Sound book.now }
+    ensures { result ≡ dropped_of (design_of book.now) (kept_of book.now) }
 {
     let count = book.count;
     count - kept(count, &book.forests)
-}
-
-// A refusal, handed on.
-pub fn no_figure(c: Checked) -> Figure
-    ensures { result ≡ figure_of c }
-{
-    match c {
-        Checked::Fine => Figure::Number(0),
-        Checked::Refused(reason) => Figure::Refused(reason),
-    }
-}
-
-fn no_verdict(c: Checked) -> Judged
-    ensures { result ≡ judged_of c }
-{
-    match c {
-        Checked::Fine => Judged::Verdict(Verdict::Tight),
-        Checked::Refused(reason) => Judged::Refused(reason),
-    }
 }
 
 pub fn judge(free: u16, implied: u16) -> Verdict
@@ -79,32 +53,23 @@ pub fn judge(free: u16, implied: u16) -> Verdict
     Verdict::OverLoose
 }
 
-pub fn freedom(book: Book) -> Figure
+pub fn freedom(book: Book) -> Result<u16, Reason>
     ensures { Freedom book result }
 {
-    let c = sound_alone(book);
-    let Checked::Fine = c else {
-        return no_figure(c);
-    };
-    Figure::Number(free_of(book))
+    sound_alone(&book)?;
+    Ok(free_of(&book))
 }
 
-pub fn dropped(book: Book) -> Figure
+pub fn dropped(book: Book) -> Result<u16, Reason>
     ensures { Dropped book result }
 {
-    let c = sound_alone(book);
-    let Checked::Fine = c else {
-        return no_figure(c);
-    };
-    Figure::Number(implied_of(book))
+    sound_alone(&book)?;
+    Ok(implied_of(&book))
 }
 
-pub fn verdict(book: Book) -> Judged
+pub fn verdict(book: Book) -> Result<Verdict, Reason>
     ensures { Judge book result }
 {
-    let c = sound_alone(book);
-    let Checked::Fine = c else {
-        return no_verdict(c);
-    };
-    Judged::Verdict(judge(free_of(book), implied_of(book)))
+    let free = freedom(book)?;
+    Ok(judge(free, implied_of(&book)))
 }

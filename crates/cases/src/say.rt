@@ -1,135 +1,87 @@
 // What the calls answer, written behind the name of its case: a word and, where there is one, a number or a list.
 //
 // Moved is not written: it goes with the choice of forests, which document 01 leaves open.
-use rule::{Answer, Done, Figure, Judged, Reason, Verdict};
+ghost use Rattle.std.specs.Prelude.{◌≡◌, take};
 
-pub fn text(bytes: &[u8]) {
-    io::write_all(1, bytes);
-}
+use rule::{Answer, Reason, Verdict};
+use std::{fmt, io};
 
-fn number(n: u16) {
-    io::print_decimal(1, n as u64);
-}
+// Numbers with commas between.
+#[derive(Drop)]
+pub struct Numbers<'a, T>(pub &'a [T]);
 
-fn refused(reason: Reason) {
-    text(b" refused=");
-    io::print_decimal(1, reports::number_of(reason) as u64);
-    if let Reason::Unsound(place) = reason {
-        text(b",");
-        number(place);
+impl<'a, T> Numbers<'a, T> {
+    // The first n of a list, or all of a shorter one.
+    pub fn first(list: &'a [T], n: usize) -> Numbers<'a, T>
+        ensures { result.0.now ≡ take n list.now }
+    {
+        Numbers(&list[..n.min(list.len())])
     }
 }
 
-// The first n numbers of a list, with commas between.
-pub fn numbers(list: &[u16], n: u16) {
-    let mut i: u16 = 0;
-    while i < n {
-        if 0 < i {
-            text(b",");
+impl<T: fmt::Display> fmt::Display for Numbers<'_, T> {
+    fn fmt<W: fmt::Write>(&self, f: &mut fmt::Formatter<W>) -> fmt::Result {
+        for (i, x) in self.0.iter().enumerate() {
+            if 0 < i {
+                write!(f, ",")?;
+            }
+            write!(f, "{x}")?;
         }
-        number(entry(list, i as usize));
-        i = i + 1;
+        Ok(())
     }
 }
 
-// The number at a place of a list, or 0 past its end.
-fn entry(list: &[u16], i: usize) -> u16 {
-    if i < list.len() { list[i] } else { 0 }
+// The number of a refusal, with the place of an unsound book.
+#[derive(Clone, Copy)]
+struct Refused(Reason);
+
+impl fmt::Display for Refused {
+    fn fmt<W: fmt::Write>(&self, f: &mut fmt::Formatter<W>) -> fmt::Result {
+        write!(f, " refused={}", usize::from(self.0))?;
+        if let Reason::Unsound(place) = self.0 {
+            write!(f, ",{place}")?;
+        }
+        Ok(())
+    }
 }
 
-pub fn answer(said: Answer, list: &[u16]) {
+// A verdict, as its line of a report has it.
+#[derive(Clone, Copy)]
+pub struct Word(pub Verdict);
+
+impl fmt::Display for Word {
+    fn fmt<W: fmt::Write>(&self, f: &mut fmt::Formatter<W>) -> fmt::Result {
+        for x in reports::word_of(self.0) {
+            f.write_char(char::from(*x))?;
+        }
+        Ok(())
+    }
+}
+
+pub fn answer(rt: &impl Print, said: Answer, list: &[u16]) -> io::Result<()> {
     match said {
-        Answer::Kept(moved) => {
-            text(b" kept");
-        }
-        Answer::Implied(n) => {
-            text(b" implied=");
-            numbers(list, n);
-        }
-        Answer::Refused(reason) => {
-            refused(reason);
-        }
+        Answer::Kept(_) => print!(rt; " kept"),
+        Answer::Implied(n) => print!(rt; " implied={}", Numbers::first(list, usize::from(n))),
+        Answer::Refused(reason) => print!(rt; "{}", Refused(reason)),
     }
 }
 
 // Nothing where the call did what was asked.
-pub fn done(said: Done) {
+pub fn done(rt: &impl Print, said: Result<(), Reason>) -> io::Result<()> {
     match said {
-        Done::Fine => {}
-        Done::Refused(reason) => {
-            refused(reason);
-        }
+        Ok(()) => Ok(()),
+        Err(reason) => print!(rt; "{}", Refused(reason)),
     }
 }
 
-pub fn figure(name: &[u8], said: Figure) {
-    text(name);
+// What was asked for, and the answer behind it.
+pub fn found<T: fmt::Display + Drop>(
+    rt: &impl Print,
+    what: &str,
+    said: Result<T, Reason>,
+) -> io::Result<()> {
     match said {
-        Figure::Number(n) => {
-            text(b"=");
-            number(n);
-        }
-        Figure::Refused(reason) => {
-            refused(reason);
-        }
-    }
-}
-
-fn verdict(said: Verdict) {
-    match said {
-        Verdict::Tight => {
-            text(b"=tight");
-        }
-        Verdict::Loose => {
-            text(b"=loose");
-        }
-        Verdict::OverTight => {
-            text(b"=over-tight");
-        }
-        Verdict::OverLoose => {
-            text(b"=over-loose");
-        }
-    }
-}
-
-pub fn judged(said: Judged) {
-    text(b" verdict");
-    match said {
-        Judged::Verdict(v) => {
-            verdict(v);
-        }
-        Judged::Refused(reason) => {
-            refused(reason);
-        }
-    }
-}
-
-// The smallest bodies of the groups of the bodies 1 to n, with commas between.
-fn leaders(list: &[u8; 64], n: u8) {
-    let mut i: u8 = 0;
-    while i < n {
-        if 0 < i {
-            text(b",");
-        }
-        number(body(list, i as usize) as u16);
-        i = i + 1;
-    }
-}
-
-// The body at a place of a group list, or 0 past its end.
-fn body(list: &[u8; 64], i: usize) -> u8 {
-    if i < 64 { list[i] } else { 0 }
-}
-
-pub fn grouped(said: Done, list: &[u8; 64], n: u8) {
-    text(b" groups");
-    match said {
-        Done::Fine => {
-            text(b"=");
-            leaders(list, n);
-        }
-        Done::Refused(reason) => {
-            refused(reason);
-        }
+        Ok(value) => print!(rt; " {what}={value}"),
+        Err(reason) => print!(rt; " {what}{}", Refused(reason)),
     }
 }

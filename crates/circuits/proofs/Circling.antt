@@ -11,7 +11,8 @@ use lib.Seq.{take_at}
 use Rattle.rule.specs.declared.Book.{Book}
 use Rattle.rule.specs.Sets.{Is, ◌=?◌, In, at, numbers}
 use Rattle.rule.specs.Legal.{Circuit}
-use Rattle.rule.specs.Books.{edge_of, Edge, the_edge, design_of, forest_of, kept_of, next}
+use Rattle.rule.specs.declared.Edge.{Edge}
+use Rattle.rule.specs.Books.{edge_of, the_edge, design_of, forest_of, kept_of, next}
 use Rattle.rule.specs.Calls.{Filled}
 use Rattle.rule.proofs.Counting.{numbers_eq}
 use Rattle.theory.proofs.Legal.Kept.{kept_has, kept_most}

@@ -4,6 +4,7 @@ use Rattle.rule.specs.declared.Book.{Book}
 use Rattle.rule.specs.Sets.{In}
 use Rattle.rule.specs.Legal.{Circuit}
 use Rattle.rule.specs.Books.{design_of, forest_of, kept_of, Sound}
+use Rattle.tables.specs.declared.Tables.{Tables}
 use Rattle.tables.specs.Tables.{Tabled}
 
 -- the book is sound, e is one of its edges and in no forest, and the tables hold its forests
@@ -14,6 +15,10 @@ pub record Listable (B : Book) (e : ℕ) (root way edge : List ℕ) : Type 0 whe
   pub who : List ℕ
   pub size : List ℕ
   pub tabled : Tabled (design_of B) (forest_of B) root way who edge size
+
+-- the same of tables as they stand
+abbrev pub ListableIn : Book → (e : ℕ) → Tables → Type 0
+ListableIn B e T = Listable B e T.labels.root T.way T.edge
 
 -- the first n places of the list hold the circuit of e among the kept edges
 pub record HoldsCircuit (B : Book) (e : ℕ) (list : List ℕ) (n : ℕ) : Type 0 where

@@ -8,7 +8,8 @@ use Rattle.rule.specs.declared.Book.{Book}
 use Rattle.rule.specs.Sets.{◌=?◌, Set, In, put, at}
 use Rattle.rule.specs.Legal.{Design}
 use Rattle.rule.specs.Forests.{Arranged}
-use Rattle.rule.specs.Books.{Edge, design_of, forest_of, offered, plus, next, ProfileRange, BodiesRange, ColourRange, Sound, EdgeRange, edge_of}
+use Rattle.rule.specs.declared.Edge.{Edge}
+use Rattle.rule.specs.Books.{design_of, forest_of, offered, plus, next, ProfileRange, BodiesRange, ColourRange, Sound, EdgeRange, edge_of}
 use Rattle.rule.specs.Calls.{Adds}
 use Rattle.rule.proofs.Tests.{in_split, put_same, put_other, put_map}
 use Rattle.rule.proofs.Places.{at_set}

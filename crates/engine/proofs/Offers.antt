@@ -9,7 +9,8 @@ use Rattle.rule.specs.declared.Book.{Book}
 use Rattle.rule.specs.Sets.{In, put, at}
 use Rattle.rule.specs.Legal.{Design, Grown}
 use Rattle.rule.specs.Forests.{Arranged}
-use Rattle.rule.specs.Books.{Edge, design_of, forest_of, kept_of, offered, next, Sound, GrownBook}
+use Rattle.rule.specs.declared.Edge.{Edge}
+use Rattle.rule.specs.Books.{design_of, forest_of, kept_of, offered, next, Sound, GrownBook}
 use Rattle.rule.specs.Calls.{OfferKept, OfferImplied}
 use Rattle.rule.proofs.Passed.{passed_offer}
 use Rattle.rule.proofs.Tests.{same_test, put_same, put_other}

@@ -13,7 +13,8 @@ use Rattle.rule.specs.declared.Book.{Book}
 use Rattle.rule.specs.Sets.{isnt, ◌=?◌, Set, In, ◌without◌, numbers}
 use Rattle.rule.specs.Legal.{Design, Ends, Keeps, Implies, Circuit}
 use Rattle.rule.specs.Forests.{Arranged, moved}
-use Rattle.rule.specs.Books.{Edge, design_of, forest_of, kept_of, offered, plus, next, Sound}
+use Rattle.rule.specs.declared.Edge.{Edge}
+use Rattle.rule.specs.Books.{design_of, forest_of, kept_of, offered, plus, next, Sound}
 use Rattle.rule.specs.Calls.{KeepsIt, ImpliesIt, Filled}
 use Rattle.rule.proofs.Counting.{count_eq}
 use Rattle.theory.specs.Exchange.{Each, Distinct, end, Free, shifted}

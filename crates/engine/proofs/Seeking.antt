@@ -5,14 +5,17 @@
 -- Assumes nothing.
 use mathlib.Core.Path.{◌≡◌, refl, sym, ap, ◌∙◌, subst}
 use mathlib.Core.List.{List, [], ◌∷◌, reverse, reverse-append, reverse-reverse}
+use Rattle.std.specs.Prelude.{Option}
 use Prim.Native.Nat.{ℕ, zero, suc, ◌+◌, ◌≤◌, ◌<◌}
+use native.Mathlib.Numerals.{add-one}
 use native.Mathlib.Omega.{arith}
 use lib.ListN.{length, get_or, take, drop, length-reverse, length-append}
 use lib.Seq.{take-suc, take_at}
 use Rattle.rule.specs.declared.Book.{Book}
 use Rattle.rule.specs.Sets.{In, at}
 use Rattle.rule.specs.Legal.{Design}
-use Rattle.rule.specs.Books.{Edge, the_edge, design_of, forest_of, offered, plus, next}
+use Rattle.rule.specs.declared.Edge.{Edge}
+use Rattle.rule.specs.Books.{the_edge, design_of, forest_of, offered, plus, next}
 use Rattle.theory.specs.Search.{edge_at, search, path_to}
 use Rattle.theory.specs.Search.Result.{found, going}
 use Rattle.theory.proofs.Laws.Plus.{plus_one, plus_other, plus_red, new_one, new_other, new_red}
@@ -23,7 +26,7 @@ use Rattle.theory.proofs.Search.Outcome.{stuck_reached}
 use Rattle.theory.proofs.Search.Reached.{Reached}
 use Rattle.theory.proofs.Search.Stages.{Ended, Turned, search_ends}
 use Rattle.tables.proofs.Longer.{tabled_longer}
-use Rattle.search.specs.declared.Outcome.{Outcome}
+use Rattle.search.specs.declared.End.{End}
 use Rattle.reaching.specs.Setting.{Setting, HoldsWaiting}
 use Rattle.search.specs.Given.{IsEdge, Given, Sought}
 use Rattle.reaching.specs.Trying.{Comes}
@@ -36,7 +39,7 @@ use Rattle.engine.proofs.Says.{offered_ends, offered_arranged, offered_last, off
 
 -- ---- the first places of an array, read backwards
 
-backward_reverse : (path : List ℕ) (n : ℕ) → n ≤ length path → backward path n ≡ reverse (take n path)
+pub backward_reverse : (path : List ℕ) (n : ℕ) → n ≤ length path → backward path n ≡ reverse (take n path)
 unfolding backward
 backward_reverse path zero h = refl
 backward_reverse path (suc n) h =
@@ -99,15 +102,14 @@ module _ (B : Book) (given : Edge) {root way edge : List ℕ} (s : Seekable B gi
         old = λ e h ne. old_edge e (omega (arith, h.low, h.high, ne));
       }
 
-  pub sought : (number : ℕ) → number ≡ suc B.count
-      → Sought B.a (B.a + B.b) given number B.ones B.others B.colours B.forests root way edge
+  pub sought : Sought B.a (B.a + B.b) given (B.count + 1) B.ones B.others B.colours B.forests root way edge
   unfolding is_given plus design_of
-  sought number q =
+  sought =
       record {
         given = is_given;
-        last = sym q;
+        last = sym (add-one B.count);
         new =
-            subst (λ (e : ℕ). IsEdge (offered B given) (forests_for B) e given 0) (sym q)
+            subst (λ (e : ℕ). IsEdge (offered B given) (forests_for B) e given 0) (sym (add-one B.count))
             (record {
               one = new_one (design_of B) given;
               other = new_other (design_of B) given;
@@ -117,10 +119,10 @@ module _ (B : Book) (given : Edge) {root way edge : List ℕ} (s : Seekable B gi
       }
 
   -- what the search has come to, of the offered edge
-  pub searched : (number : ℕ) (q : number ≡ suc B.count) (queue from : List ℕ) (o : Outcome) → Searched (sought number q).given queue from o
-      → Answers (λ w. HoldsWaiting w queue from) (search (offered B given) (forests_for B) (next B)) o
+  pub searched : (queue from : List ℕ) (n : ℕ) (o : Option End) → Searched sought.given queue from n o
+      → Answers (λ w. HoldsWaiting w queue from) (search (offered B given) (forests_for B) (next B)) n o
   unfolding sought is_given plus design_of
-  searched number q queue from o r = r
+  searched queue from n o r = r
 
   last_edge : In (offered B given).m (next B)
   last_edge = offered_last B given s.sound s.one s.other

@@ -3,17 +3,18 @@
 -- Assumes nothing.
 use mathlib.Core.Path.{◌≡◌, refl, sym, ap, ap₂, ◌∙◌, subst, subst₂}
 use mathlib.Core.Logic.{◌≢◌}
-use mathlib.Core.List.{List, [], ◌∷◌}
+use mathlib.Core.List.{List, [], ◌∷◌, reverse}
 use Prim.Native.Nat.{ℕ, suc, ◌+◌, ◌-◌, ◌<◌}
 use native.Mathlib.Omega.{arith}
-use lib.ListN.{length, drop, length-set, length-drop}
+use lib.ListN.{length, take, drop, length-set, length-drop}
 use lib.Seq.{ext_get_or, get_or-drop}
 use Rattle.rule.specs.declared.Book.{Book}
 use Rattle.rule.specs.declared.Answer.TheVariants.{Kept, Implied}
 use Rattle.rule.specs.Sets.{In, at}
 use Rattle.rule.specs.Legal.{Design}
 use Rattle.rule.specs.Forests.{Arranged}
-use Rattle.rule.specs.Books.{Edge, design_of, forest_of, offered, plus, next, Sound}
+use Rattle.rule.specs.declared.Edge.{Edge}
+use Rattle.rule.specs.Books.{design_of, forest_of, offered, plus, next, Sound}
 use Rattle.rule.specs.Calls.{Adds, KeepsIt, ImpliesIt}
 use Rattle.rule.proofs.Passed.{passed_offer}
 use Rattle.rule.proofs.Tests.{put_other}
@@ -24,10 +25,11 @@ use Rattle.theory.proofs.Exchange.Walk.{Start}
 use Rattle.theory.proofs.Legal.Sound.{sound_head}
 use Rattle.tables.specs.Tables.{Tabled}
 use Rattle.tables.proofs.Longer.{tabled_longer}
-use Rattle.moving.specs.Moves.{backward, Drawn, Replanting, Replanted}
+use Rattle.moving.specs.Moves.{Drawn, Replanting, Replanted}
 use Rattle.engine.specs.Seek.{forests_for, Seekable, EndsIn, Fails}
 use Rattle.engine.specs.Take.{Full, Entered, Takeable, Takes}
 use Rattle.engine.proofs.After.{one_after, other_after, design_after}
+use Rattle.engine.proofs.Seeking.{backward_reverse}
 use Rattle.engine.proofs.Says.{offered_ends, offered_arranged, start, free, old_path, found_says, stuck_says}
 
 -- an edge that is not on the path keeps its forest
@@ -62,41 +64,39 @@ module _ (B : Book) (given : Edge) {list root way who edge size : List ℕ} (t :
   pub seekable : Seekable B given.one given.other root way edge
   seekable = record { sound = sound; one = hu; other = hv; who = who; size = size; tabled = t.ready.tabled }
 
-  module _ {ones others colours entered : List ℕ}
-      (l : Entered B.count given B.ones B.others B.colours B.forests ones others colours entered) where
+  module _ {entered : Book} (l : Entered B given entered) where
     -- the book with the edge, and these forests
     abbrev pub after : List ℕ → Book
-    after forests' =
-        record {
-          a = B.a;
-          b = B.b;
-          n = B.n;
-          count = suc B.count;
-          ones = ones;
-          others = others;
-          colours = colours;
-          forests = forests';
-        }
+    after forests' = record entered { forests = forests' }
 
-    adds : (forests' : List ℕ) → Adds B (after forests') given
-    adds forests' = record { a = refl; b = refl; n = refl; count = refl; ones = l.one; others = l.other; colours = l.coloured }
+    pub adds : (forests' : List ℕ) → Adds B (after forests') given
+    adds forests' =
+        record {
+          a = l.adds.a;
+          b = l.adds.b;
+          n = l.adds.n;
+          count = l.adds.count;
+          ones = l.adds.ones;
+          others = l.adds.others;
+          colours = l.adds.colours;
+        }
 
     design_is : (forests' : List ℕ) → design_of (after forests') ≡ offered B given
     design_is forests' = design_after B (after forests') given (adds forests') t.ready.full room
 
-    entered_is : at entered ≡ forests_for B
+    entered_is : at entered.forests ≡ forests_for B
     entered_is = ap at l.nowhere ∙ at_set B.forests B.count 0 (omega (arith, room, t.ready.full.forests))
 
     full : (forests' : List ℕ) → length forests' ≡ 512 → Full (after forests')
     full forests' long =
         record {
-          ones = ap length l.one ∙ length-set B.ones B.count given.one ∙ t.ready.full.ones;
-          others = ap length l.other ∙ length-set B.others B.count given.other ∙ t.ready.full.others;
-          colours = ap length l.coloured ∙ length-set B.colours B.count given.colour ∙ t.ready.full.colours;
+          ones = ap length l.adds.ones ∙ length-set B.ones B.count given.one ∙ t.ready.full.ones;
+          others = ap length l.adds.others ∙ length-set B.others B.count given.other ∙ t.ready.full.others;
+          colours = ap length l.adds.colours ∙ length-set B.colours B.count given.colour ∙ t.ready.full.colours;
           forests = long;
         }
 
-    entered_long : length entered ≡ 512
+    entered_long : length entered.forests ≡ 512
     entered_long = ap length l.nowhere ∙ length-set B.forests B.count 0 ∙ t.ready.full.forests
 
     -- the tables hold the forests of the book with the edge in none
@@ -107,7 +107,7 @@ module _ (B : Book) (given : Edge) {list root way who edge size : List ℕ} (t :
     -- ---- it is implied
 
     pub takes_implied : (listed : List ℕ) (n : ℕ) → Fails B given list listed n
-        → Takes B (after entered) given list listed root way who edge size (Implied n)
+        → Takes B entered given list listed root way who edge size (Implied n)
     takes_implied listed n f =
         record {
           offer =
@@ -116,15 +116,15 @@ module _ (B : Book) (given : Edge) {list root way who edge size : List ℕ} (t :
                 says =
                     subst (ImpliesIt B given list listed) (sym f.counts)
                     (stuck_says B given sound hu hv f.waiting f.is_stuck list listed f.fills f.as_long);
-                adds = adds entered;
+                adds = l.adds;
                 forests = l.nowhere;
               };
           ready =
               record {
                 tabled =
-                    subst₂ (λ (d : Design) (g : ℕ → ℕ). Tabled d g root way who edge size) (sym (design_is entered)) (sym entered_is) tabled;
+                    subst₂ (λ (d : Design) (g : ℕ → ℕ). Tabled d g root way who edge size) (sym (design_is entered.forests)) (sym entered_is) tabled;
                 sized = t.ready.sized;
-                full = full entered entered_long;
+                full = full entered.forests entered_long;
               };
         }
 
@@ -134,49 +134,47 @@ module _ (B : Book) (given : Edge) {list root way who edge size : List ℕ} (t :
       abbrev goes : List ℕ
       goes = path_to e.waiting e.place
 
-      drawn : Drawn (offered B given) ones others
+      drawn : Drawn (offered B given) entered.ones entered.others
       unfolding plus design_of
       drawn =
           let head = sound_head B sound in
           record {
             edges = omega (arith, room);
             forests = omega (arith, head.profile.0.high, head.profile.1.high);
-            one = λ z h. ap (λ (g : ℕ → ℕ). g z) (sym (one_after B (after entered) given (adds entered) t.ready.full room));
-            other = λ z h. ap (λ (g : ℕ → ℕ). g z) (sym (other_after B (after entered) given (adds entered) t.ready.full room));
+            one = λ z h. ap (λ (g : ℕ → ℕ). g z) (sym (one_after B entered given l.adds t.ready.full room));
+            other = λ z h. ap (λ (g : ℕ → ℕ). g z) (sym (other_after B entered given l.adds t.ready.full room));
             bodies = head.bodies;
             ends = offered_ends B given sound hu hv;
-            ones_long = (full entered entered_long).ones;
-            others_long = (full entered entered_long).others;
           }
 
-      module _ (number : ℕ) (q : number ≡ suc B.count) (long : length path ≡ 379) where
-        pub replanting : Replanting n number f path ones others entered root way who edge size
+      module _ (moves : List ℕ) (is : moves ≡ take n path) (long : length path ≡ 379) where
+        goes_back : reverse moves ≡ goes
+        goes_back = ap reverse is ∙ sym (backward_reverse path n (omega (arith, e.few, long))) ∙ e.leads
+
+        pub replanting : Replanting entered.count f moves entered.ones entered.others entered.forests root way who edge size
         replanting =
             record {
               d = offered B given;
               drawn = drawn;
               arranged = subst (Arranged (offered B given)) (sym entered_is) (offered_arranged B given sound hu hv);
               start =
-                  subst (λ (x : ℕ). Start (offered B given) (at entered) x (backward path n)) (sym q)
-                  (subst₂ (λ (g : ℕ → ℕ) (l : List ℕ). Start (offered B given) g (next B) l) (sym entered_is) (sym e.leads)
+                  subst (λ (x : ℕ). Start (offered B given) (at entered.forests) x (reverse moves)) (sym l.adds.count)
+                  (subst₂ (λ (g : ℕ → ℕ) (l : List ℕ). Start (offered B given) g (next B) l) (sym entered_is) (sym goes_back)
                   (start B given sound hu hv e.place f e.waiting e.is_found));
               free =
-                  subst (λ (x : ℕ). Free (offered B given) (at entered) (end x (backward path n)) f) (sym q)
-                  (subst₂ (λ (g : ℕ → ℕ) (l : List ℕ). Free (offered B given) g (end (next B) l) f) (sym entered_is) (sym e.leads)
+                  subst (λ (x : ℕ). Free (offered B given) (at entered.forests) (end x (reverse moves)) f) (sym l.adds.count)
+                  (subst₂ (λ (g : ℕ → ℕ) (l : List ℕ). Free (offered B given) g (end (next B) l) f) (sym entered_is) (sym goes_back)
                   (free B given sound hu hv e.place f e.waiting e.is_found));
               tabled = subst (λ (g : ℕ → ℕ). Tabled (offered B given) g root way who edge size) (sym entered_is) tabled;
-              sized = t.ready.sized;
               forests_long = entered_long;
-              path_long = long;
-              places = e.few;
             }
 
         module _ (forests' root' way' who' edge' size' : List ℕ) (r : Replanted replanting forests' root' way' who' edge' size') where
           moved_to : at forests' ≡ shifted (forests_for B) (next B ∷ goes) f
           moved_to =
               r.shifts
-              ∙ ap₂ (λ (g : ℕ → ℕ) (x : ℕ). shifted g (x ∷ backward path n) f) entered_is q
-              ∙ ap (λ (l : List ℕ). shifted (forests_for B) (next B ∷ l) f) e.leads
+              ∙ ap₂ (λ (g : ℕ → ℕ) (x : ℕ). shifted g (x ∷ reverse moves) f) entered_is l.adds.count
+              ∙ ap (λ (z : List ℕ). shifted (forests_for B) (next B ∷ z) f) goes_back
 
           past : drop (next B) forests' ≡ drop (next B) B.forests
           past =

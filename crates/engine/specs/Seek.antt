@@ -2,29 +2,16 @@
 use Rattle.std.specs.Prelude.{◌≡◌, List, ℕ, ◌≤◌, length}
 use Rattle.rule.specs.declared.Book.{Book}
 use Rattle.rule.specs.Sets.{In, put, ◌without◌, numbers}
-use Rattle.rule.specs.Books.{Edge, design_of, forest_of, offered, next, Sound}
+use Rattle.rule.specs.declared.Edge.{Edge}
+use Rattle.rule.specs.Books.{design_of, forest_of, offered, next, Sound}
 use Rattle.rule.specs.Calls.{Filled}
 use Rattle.theory.specs.Search.{Waiting, search, path_to}
 use Rattle.theory.specs.Search.Result.{found, going}
 use Rattle.tables.specs.Tables.{Tabled}
+use Rattle.tables.specs.declared.Tables.{Tables}
 use Rattle.moving.specs.Moves.{backward}
-use Rattle.engine.specs.declared.Head.{Head}
 use Rattle.engine.specs.declared.Place.{Place}
 use Rattle.engine.specs.declared.Place.TheVariants.{Found, Stuck}
-
--- the book with this head and these lists
-abbrev pub book_of : Head → (ones others colours forests : List ℕ) → Book
-book_of head ones others colours forests =
-    record {
-      a = head.a;
-      b = head.b;
-      n = head.n;
-      count = head.count;
-      ones = ones;
-      others = others;
-      colours = colours;
-      forests = forests;
-    }
 
 -- the forests of a book, and the offered edge in none
 abbrev pub forests_for : Book → ℕ → ℕ
@@ -38,6 +25,10 @@ pub record Seekable (B : Book) (u v : ℕ) (root way edge : List ℕ) : Type 0 w
   pub who : List ℕ
   pub size : List ℕ
   pub tabled : Tabled (design_of B) (forest_of B) root way who edge size
+
+-- the same of an edge, and of tables as they stand
+abbrev pub SeekableIn : Book → Edge → Tables → Type 0
+SeekableIn B given T = Seekable B given.one given.other T.labels.root T.way T.edge
 
 -- the search ended in forest f, and the first n places of an array hold the path to its end, last edge first
 pub record EndsIn (B : Book) (given : Edge) (path : List ℕ) (n f : ℕ) : Type 0 where

@@ -9,7 +9,7 @@ use native.Mathlib.Omega.{arith}
 use lib.ListN.{length, take}
 use lib.Seq.{length-take-le, get_or-take}
 use Rattle.rule.specs.declared.Book.{Book}
-use Rattle.rule.specs.declared.Done.{Done}
+use Rattle.std.specs.Prelude.{Ok}
 use Rattle.rule.specs.Sets.{Set, In, at}
 use Rattle.rule.specs.Legal.{Design, Ends, k}
 use Rattle.rule.specs.Forests.{limit, kept_in, Arranged}
@@ -95,7 +95,7 @@ module _ (B : Book) (sound : Sound B) where
 
   -- what `classes` lists with limit k, and over k forests, is what a call for the group list answers
   pub classes_grouped : (before after : List ℕ) → 64 ≤ length before → (j n : ℕ) → j ≡ B.a + B.b → n ≡ B.n
-      → Classes B.count B.ones B.others B.colours B.forests j j j n before after → Grouped B before after Done.Fine
+      → Classes B.count B.ones B.others B.colours B.forests j j j n before after → Grouped B before after (Ok tt)
   unfolding design_of
   classes_grouped before after room j n at_j at_n c =
       let head = sound_head B sound in

@@ -172,7 +172,7 @@ module _ {m : ℕ} {ones others forests : List ℕ} where
             let q : at forests (suc e) ≡ f = at_suc forests e ∙ sym read.forest in
             subst (In (k d)) q (placed d (at forests) arr (suc e) (omega (arith, lent.edges)) (omega arith))
 
-        pub grows_ready : ReadyToUnite f u v root who
+        pub grows_ready : ReadyToUnite f u v root
         grows_ready =
             let ends = ends_tabled given.design m ones others given.lent (suc e) (omega arith) in
             let hf : In 6 f = omega (arith, in_forests given.design given.lent given.arranged, given.lent.few) in
@@ -185,8 +185,6 @@ module _ {m : ℕ} {ones others forests : List ℕ} where
               other = hv;
               one_label = labels.small u hu;
               other_label = labels.small v hv;
-              root_long = g.root_long;
-              who_long = g.who_long;
             }
 
         pub grows_more : {root' who' : List ℕ} {word : ℕ} → United f u v root who root' who' word → Grows m ones others forests root' who' (e + 1)

@@ -1,15 +1,18 @@
 -- What the labels of the forests say: which edges stay in a pass, and which bodies are together.
 -- Assumes nothing.
-use mathlib.Core.Path.{◌≡◌, refl, sym, ap, ap₂, ◌∙◌, subst}
-use mathlib.Core.Bool.{Bool, true, false, cond}
+use mathlib.Core.Path.{◌≡◌, sym, ap, ap₂, ◌∙◌, subst}
+use mathlib.Core.Bool.{Bool, true, false, cond, false≢true}
 use mathlib.Core.List.{List}
-use Prim.Native.Nat.{ℕ, suc, ◌-◌, ◌≤◌}
+use Prim.Native.Nat.{ℕ, suc, ◌+◌, ◌-◌, ◌≤◌, ◌<◌}
 use native.Mathlib.Omega.{arith}
-use lib.ListN.{get_or}
+use lib.ListN.{length, get_or}
+use Rattle.std.specs.Bool.{MatchBool}
+use Rattle.std.specs.List.{AllWithin, HoldsAt, range_with_len}
+use Rattle.std.proofs.lemmas.List.FromFn.{length-range_with_len, get_or-range_with_len}
 use Rattle.rule.specs.Sets.{Is, ◌=?◌, Set, In, at}
 use Rattle.rule.specs.Legal.{Design}
 use Rattle.rule.specs.Forests.{in_forest}
-use Rattle.rule.proofs.Tests.{same_test, and_make}
+use Rattle.rule.proofs.Tests.{is_false, same_test}
 use Rattle.theory.specs.Numbers.{every}
 use Rattle.theory.specs.Joined.{joined, spans}
 use Rattle.theory.specs.Closed.{standing}
@@ -35,17 +38,24 @@ either_most false x y most p q = q
 -- ---- labels, forest by forest
 
 module _ (root : List ℕ) (u v : ℕ) where
-  pub same_none : Is (same_labels root 0 u v)
-  unfolding same_labels every
-  same_none = refl
+  abbrev pub one_label : ℕ → Bool
+  one_label i = label root i u =? label root i v
 
-  pub same_more : (i : ℕ) → Is (same_labels root i u v) → Is (label root (suc i) u =? label root (suc i) v) → Is (same_labels root (suc i) u v)
-  unfolding same_labels every
-  same_more i h t = and_make _ _ h t
-
-  pub same_at : (j i : ℕ) → In j i → Is (same_labels root j u v) → Is (label root i u =? label root i v)
+  -- what `all` answers of the first j numbers, each plus 1
+  pub same_of : (j : ℕ) (r : Bool)
+      → MatchBool r (AllWithin (λ i. Is (one_label (i + 1))) (range_with_len 0 j) 0 (length (range_with_len 0 j)))
+      ((i : ℕ) × (i < length (range_with_len 0 j)) × HoldsAt (λ i. one_label (i + 1) ≡ false) (range_with_len 0 j) i) → r ≡ same_labels root j u v
   unfolding same_labels
-  same_at j i r h = every_at (λ i. label root i u =? label root i v) j i r h
+  same_of j true all =
+      sym (every_make one_label j
+      (λ i h.
+      subst (λ (z : ℕ). Is (one_label z)) (omega (arith, h.low, get_or-range_with_len 0 j (i - 1) 0 (omega (arith, h.low, h.high))))
+      (all (i - 1) 0 (omega arith) (omega (arith, h.low, h.high, length-range_with_len 0 j)))))
+  same_of j false apart =
+      let i = apart.0 in
+      let less : i < j = omega (arith, apart.1, length-range_with_len 0 j) in
+      let here : one_label (i + 1) ≡ false = subst (λ (z : ℕ). one_label (z + 1) ≡ false) (omega (arith, get_or-range_with_len 0 j i 0 less)) (apart.2 0) in
+      sym (is_false _ (λ h. false≢true (sym here ∙ every_at one_label j (i + 1) (omega arith) h)))
 
 -- ---- the edges
 

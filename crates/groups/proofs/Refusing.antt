@@ -9,16 +9,16 @@ use lib.ListN.{length}
 use Rattle.rule.specs.declared.Book.{Book}
 use Rattle.rule.specs.declared.Reason.{Reason}
 use Rattle.rule.specs.declared.Reason.TheVariants.{Short}
-use Rattle.rule.specs.declared.Done.{Done}
+use Rattle.std.specs.Prelude.{Err}
 use Rattle.rule.specs.Books.{Sound}
 use Rattle.rule.specs.Reasons.{Fail, book_checks}
 use Rattle.rule.specs.Calls.{Grouped}
 
-pub refused_unsound : (B : Book) (list : List ℕ) (r : Reason) → Fail (book_checks B) r → Grouped B list list (Done.Refused r)
+pub refused_unsound : (B : Book) (list : List ℕ) (r : Reason) → Fail (book_checks B) r → Grouped B list list (Err r)
 refused_unsound B list r (inl x) = (inl x, refl)
 refused_unsound B list r (inr x) = absurd x.1
 
-pub refused_short : (B : Book) (list : List ℕ) → Sound B → length list < 64 → Grouped B list list (Done.Refused Short)
+pub refused_short : (B : Book) (list : List ℕ) → Sound B → length list < 64 → Grouped B list list (Err Short)
 refused_short B list sound few = (inr (sound, inl (short, refl, refl)), refl)
   where
     short : ¬ (64 ≤ length list)

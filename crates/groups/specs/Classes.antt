@@ -1,5 +1,6 @@
 -- Classes of bodies, read off the labels of the forests, and listed by their smallest bodies.
 use Rattle.std.specs.Prelude.{◌≡◌, List, ℕ, ◌-◌, ◌≤◌, length, drop}
+use Rattle.rule.specs.declared.Book.{Book}
 use Rattle.rule.specs.Sets.{Is, Set, In, at}
 use Rattle.rule.specs.Legal.{Design}
 use Rattle.rule.specs.Forests.{Arranged}
@@ -7,6 +8,8 @@ use Rattle.theory.specs.Numbers.{every}
 use Rattle.theory.specs.Closed.{greatest}
 use Rattle.theory.specs.Groups.{joined_in_all}
 use Rattle.words.specs.Bits.{bit}
+use Rattle.tables.specs.declared.Limits.{Limits}
+use Rattle.tables.specs.declared.Labels.{Labels}
 use Rattle.tables.specs.Tables.{label, crowd}
 use Rattle.groups.specs.Lent.{Lent, Coloured, limits}
 
@@ -31,3 +34,11 @@ abbrev pub Classes : (m : ℕ) (ones others colours forests : List ℕ) (red bla
 Classes m ones others colours forests red black j n before after =
     (d : Design) → Lent d m ones others → Coloured d colours → Arranged d (at forests)
     → ClassesListed (joined_in_all d (at forests) (greatest d (at forests) (limits d red black)) j) n before after
+
+-- ---- the same of a book, its labels and its limits
+
+abbrev pub together_in : Labels → (j v : ℕ) → Set
+together_in L = together L.root L.who
+
+abbrev pub ClassesIn : Book → Limits → (j : ℕ) → (before after : List ℕ) → Type 0
+ClassesIn B limits j before after = Classes B.count B.ones B.others B.colours B.forests limits.red limits.black j B.n before after

@@ -1,4 +1,3 @@
 pub mod Lent
 pub mod Passes
 pub mod Classes
-pub mod Answers

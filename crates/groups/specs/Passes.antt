@@ -1,12 +1,15 @@
 -- What a pass of deletion, and the passes until nothing changes, leave behind. The set that is left is held as the forests of its
 -- edges: an edge has its forest as long as it is in the set, and 0 from when it is deleted.
 use Rattle.std.specs.Prelude.{◌≡◌, Bool, cond, List, ℕ, ◌-◌, ◌<◌, length}
+use Rattle.rule.specs.declared.Book.{Book}
 use Rattle.rule.specs.Sets.{Is, ◌and◌, isnt, ◌=?◌, ◌<?◌, Set, In, count, at}
 use Rattle.rule.specs.Legal.{Design}
 use Rattle.rule.specs.Forests.{in_forest, Arranged}
 use Rattle.theory.specs.Numbers.{every}
 use Rattle.theory.specs.Closed.{standing, greatest}
 use Rattle.words.specs.Bits.{bit}
+use Rattle.tables.specs.declared.Limits.{Limits}
+use Rattle.tables.specs.declared.Labels.{Labels as Rows}
 use Rattle.tables.specs.Tables.{label, crowd, Labels}
 use Rattle.labels.specs.Rows.{Long}
 use Rattle.groups.specs.Lent.{Lent, Coloured, limits}
@@ -55,3 +58,17 @@ pub record Shrunk (m : ℕ) (ones others colours : List ℕ) (red black : ℕ) (
   pub seated : Seated root who
   pub core : (d : Design) → Lent d m ones others → Coloured d colours → Arranged d (at before)
       → Core d (at before) (limits d red black) after root who
+
+-- ---- the same of a book, its labels and its limits
+
+abbrev pub SeatedIn : Rows → Type 0
+SeatedIn L = Seated L.root L.who
+
+abbrev pub PlantedIn : Book → (left : List ℕ) → Rows → Type 0
+PlantedIn B left L = AllPlanted B.count B.ones B.others left L.root L.who
+
+abbrev pub stays_in : Book → Rows → Limits → Set
+stays_in B L limits = stays L.root B.ones B.others B.colours limits.red limits.black
+
+abbrev pub ShrunkIn : Book → Limits → (before after : List ℕ) → Rows → Type 0
+ShrunkIn B limits before after L = Shrunk B.count B.ones B.others B.colours limits.red limits.black before after L.root L.who

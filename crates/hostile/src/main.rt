@@ -5,132 +5,85 @@
 
 mod lay;
 
-use cases::say;
-use lay::LineLaid;
+use lay::Text;
 use pager::Kind;
 use reports::Line;
-
-// The case that is being read: whether there is one yet, and how long its text is so far.
-#[derive(Clone, Copy)]
-struct Case {
-    open: bool,
-    size: usize,
-}
+use std::fmt;
+use std::io::Result;
 
 // ---- what is written
 
-fn by_number(x: u8) {
-    say::text(b"<");
-    io::print_decimal(1, x as u64);
-    say::text(b">");
-}
+// Bytes, with those that do not print as their number.
+#[derive(Clone, Copy)]
+struct Shown<'a>(&'a [u8]);
 
-fn byte(x: u8) {
-    match x {
-        32..=126 => say::text(&[x]),
-        _ => by_number(x),
-    }
-}
-
-fn part(bytes: &[u8]) {
-    let mut i = 0;
-    while i < bytes.len() {
-        byte(bytes[i]);
-        i += 1;
-    }
-}
-
-fn front(bytes: &[u8], size: usize) {
-    if size <= bytes.len() {
-        say::text(&bytes[..size]);
+impl fmt::Display for Shown<'_> {
+    fn fmt<W: fmt::Write>(&self, f: &mut fmt::Formatter<W>) -> fmt::Result {
+        for x in self.0 {
+            match *x {
+                b' '..=b'~' => f.write_char(char::from(*x))?,
+                x => write!(f, "<{x}>")?,
+            }
+        }
+        Ok(())
     }
 }
 
 // The first line of the report.
-fn first_line(book: &[u8]) {
+fn first_line(rt: &impl Print, book: &[u8]) -> Result<()> {
     let mut buffer = [0u8; 2048];
-    let state = reader::begin(book);
-    let r = pager::next(Kind::Report, state, &mut buffer);
-    let answer = r.answer;
-    match answer {
-        Line::Written(size) => front(&buffer, size),
-        Line::Over => say::text(b"over\n"),
-        Line::Refused(_) => say::text(b"refused\n"),
+    let stepped = pager::next(Kind::Report, reader::begin(book), &mut buffer);
+    match stepped.answer {
+        Line::Written(size) => rt.write_all(&buffer[..size]),
+        Line::Over => println!(rt; "over"),
+        Line::Refused(_) => println!(rt; "refused"),
     }
 }
 
-fn outcome(book: &[u8]) {
-    say::text(b" [");
-    part(text::fault(book));
-    say::text(b"] ");
-    first_line(book);
+fn outcome(rt: &impl Print, book: &[u8]) -> Result<()> {
+    print!(rt; " [{}] ", Shown(text::fault(book)))?;
+    first_line(rt, book)
 }
 
 // ---- the file of cases
 
-// The case is whole. A text that fills the space was cut, and is no case.
-fn finish(space: &[u8], case: Case, number: usize) {
-    if case.open {
-        let size = case.size;
-        if size < space.len() {
-            outcome(&space[..size]);
-        } else {
-            cases::bad(number);
+// The case is whole. A text that was cut is no case.
+fn finish(rt: &impl Print, case: &Option<Text>, number: usize) -> Result<()> {
+    let Some(text) = case else {
+        return Ok(());
+    };
+    match text.whole() {
+        Some(book) => outcome(rt, book),
+        None => cases::bad(rt, number),
+    }
+}
+
+fn run(rt: &impl Print, file: &[u8]) -> Result<()> {
+    let mut case = None;
+    let mut number = 0;
+    for (i, line) in file.split_inclusive(|x| *x == b'\n').enumerate() {
+        number = i + 1;
+        if cases::silent(line) {
+            continue;
+        }
+        if let Some(name) = cases::name(line) {
+            finish(rt, &case, number)?;
+            rt.write_all(name)?;
+            case = Some(Text::new());
+        } else if case
+            .as_mut()
+            .and_then(|text| lay::line(line, text))
+            .is_none()
+        {
+            cases::bad(rt, number)?;
         }
     }
+    finish(rt, &case, number)
 }
 
-// A line of a case's text.
-fn further(line: &[u8], number: usize, space: &mut [u8], case: Case) -> Case {
-    let mut next = case;
-    let r = lay::line(line, space, case.size);
-    match r {
-        LineLaid::To(size) => next.size = size,
-        LineLaid::Bad => cases::bad(number),
-    }
-    next
-}
-
-fn take_line(line: &[u8], number: usize, space: &mut [u8], case: Case) -> Case {
-    if cases::silent(line) {
-        return case;
-    }
-    if cases::names(line) {
-        finish(space, case, number);
-        cases::write_name(line);
-        return Case {
-            open: true,
-            size: 0,
-        };
-    }
-    if case.open {
-        return further(line, number, space, case);
-    }
-    cases::bad(number);
-    case
-}
-
-fn run(file: &[u8], space: &mut [u8]) {
-    let mut case = Case {
-        open: false,
-        size: 0,
-    };
-    let mut at = 0;
-    let mut number = 0;
-    while at < file.len() {
-        let next = cases::past_line(file, at);
-        number += 1;
-        case = take_line(&file[at..next], number, space, case);
-        at = next;
-    }
-    finish(space, case, number);
-}
-
-fn main() {
+// A write that fails ends the program, and is not told, as it never was: what the program does may not change.
+fn main(rt: HostRuntime) {
     let mut file = [0u8; 65536];
-    let input: &mut [u8] = &mut file;
-    let n = io::read_full(0, input);
-    let whole = &input[..];
-    let mut space = [0u8; 24576];
-    run(&whole[..n], &mut space);
+    let n = io::read_full(0, &mut file);
+    let _ = run(&rt, &file[..n]);
 }

@@ -78,7 +78,7 @@ or_turned a b =
     same_test _ _ (λ h. ⊎_elim (λ p. or_r b a p) (λ p. or_l b a p) (or_elim a b h)) (λ h. ⊎_elim (λ p. or_r a b p) (λ p. or_l a b p) (or_elim b a h))
 
 -- Either tree may take the other's label: p and q are u and v, or v and u.
-module _ (f u v : ℕ) (root who : List ℕ) (r : ReadyToUnite f u v root who) where
+module _ (f u v : ℕ) (root who : List ℕ) (r : ReadyToUnite f u v root) (root_long : Long root) (who_long : Long who) where
   -- the tree of p takes the label of q
   module _ (p q word : ℕ) (hp : In 64 p) (root' : List ℕ) (small : label root f q < 64)
       (a : Applied (λ _. label root f q) (start f) (bit (crowd who f (label root f p))) root root')
@@ -89,14 +89,14 @@ module _ (f u v : ℕ) (root who : List ℕ) (r : ReadyToUnite f u v root who) w
     united_by : United f u v root who root' (set who (start f + label root f q) word) (crowd who f (label root f p))
     united_by =
         record {
-          root_long = a.as_long ∙ r.root_long;
-          who_long = length-set who (start f + label root f q) word ∙ r.who_long;
+          root_long = a.as_long ∙ root_long;
+          who_long = length-set who (start f + label root f q) word ∙ who_long;
           root_else = a.else;
           who_else = λ i o. get_or-set_other who (start f + label root f q) i word 0 (o (label root f q) small);
           tree = λ d s old. which d s (λ x h. old.bodies p x hp h);
           labels =
               λ d s e h one other old apart.
-              labels_joined d s e f p q word root who root' (turn d s e (edge_links d s e u v h one other r.one r.other apart)) r.who_long
+              labels_joined d s e f p q word root who root' (turn d s e (edge_links d s e u v h one other r.one r.other apart)) who_long
               r.forest old a both;
         }
 

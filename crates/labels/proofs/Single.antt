@@ -2,7 +2,7 @@
 -- Assumes nothing.
 use mathlib.Core.Path.{◌≡◌, refl, sym, ap, ap₂, ◌∙◌, subst}
 use mathlib.Core.List.{List}
-use Prim.Native.Nat.{ℕ, ◌+◌, ◌-◌, ◌%◌, ◌^◌, ◌≤◌, ◌<◌}
+use Prim.Native.Nat.{ℕ, ◌+◌, ◌-◌, ◌%◌, ◌^◌, ◌<◌}
 use native.Mathlib.Omega.{arith}
 use lib.ListN.{length, get_or, set}
 use lib.Seq.{get_or-set_same, get_or-set_other}
@@ -14,7 +14,6 @@ use Rattle.theory.proofs.Joined.Laws.{joined_refl, joined_least}
 use Rattle.words.specs.Bits.{bit}
 use Rattle.words.proofs.Bits.{bit_power}
 use Rattle.tables.specs.Tables.{start, label, crowd, Labels}
-use Rattle.labels.specs.Rows.{Long}
 use Rattle.labels.specs.Labels.{Empty}
 
 pub joined_none : (d : Design) (s : Set) → Empty d s → (x y : ℕ) → joined d s x y ≡ (x =? y)
@@ -38,9 +37,6 @@ front_more h list i l f k less =
 
 -- each place of a row has its own number, and the word with that bit alone
 pub record Alone (root who : List ℕ) (i : ℕ) : Type 0 where
-  pub most : i ≤ 384
-  pub root_long : Long root
-  pub who_long : Long who
   pub names : Front (λ k. k % 64) root i
   pub words : Front (λ k. 2 ^ (k % 64)) who i
 

@@ -18,14 +18,12 @@ pub record Begun (root who : List ℕ) : Type 0 where
   pub labels : (d : Design) (s : Set) → Empty d s → (f : ℕ) → In 6 f → Labels d s f root who
 
 -- what `unite` needs so that it stays inside the tables
-pub record ReadyToUnite (f u v : ℕ) (root who : List ℕ) : Type 0 where
+pub record ReadyToUnite (f u v : ℕ) (root : List ℕ) : Type 0 where
   pub forest : In 6 f
   pub one : In 64 u
   pub other : In 64 v
   pub one_label : label root f u < 64
   pub other_label : label root f v < 64
-  pub root_long : Long root
-  pub who_long : Long who
 
 -- the word has the bodies that s joins to u
 abbrev pub Tree : Design → Set → (u word : ℕ) → Type 0

@@ -7,11 +7,12 @@ use mathlib.Core.Path.{◌≡◌, sym, ap, ◌∙◌, subst}
 use mathlib.Core.List.{List, [], ◌∷◌, ◌++◌, append_assoc, append-nil}
 use Prim.Native.Nat.{ℕ, ◌+◌, ◌-◌, ◌≤◌, ◌<◌}
 use native.Mathlib.Omega.{arith}
-use lib.ListN.{length, take, drop, set, length-append, take-append-drop}
+use lib.ListN.{length, take, drop, set, length-append, length-drop, take-append-drop}
 use lib.Seq.{length-take-le, take_at, drop-drop, drop-append-add}
 use Rattle.text.specs.Lines.{LF}
 use Rattle.text.specs.Puts.{Writes}
 use Rattle.text.proofs.Overwrites.{writes_as, writes_length, writes_more, writes_then, rest}
+use Rattle.text.proofs.Fields.{part_rest}
 use Rattle.lines.specs.Adding.{Appends}
 
 -- ---- what one writer adds
@@ -31,6 +32,10 @@ adds_byte s at x h =
 pub adds_part : (s : List ℕ) (at : ℕ) {u part : List ℕ} {j : ℕ} → at ≤ length s → Writes u (rest s at) part j
     → Appends u s (take at s ++ (part ++ drop (length s - at) (drop at s))) at (at + j)
 adds_part s at h w = record { writes = writes_then (writes_front s at h) w }
+
+-- it has room in the part that it is lent
+pub adds_room : (u s : List ℕ) (at : ℕ) → at + length u ≤ length s → length u ≤ length (rest s at)
+adds_room u s at h = omega (arith, ap length (part_rest s at), length-drop at s)
 
 -- the same bytes, otherwise written
 pub adds_as : {u v s after : List ℕ} {at next : ℕ} → u ≡ v → Appends u s after at next → Appends v s after at next
@@ -91,6 +96,11 @@ module _ (key middle s : List ℕ) (h : length (key ++ (middle ++ LF ∷ [])) �
 
   pub key_fits : length key ≤ length s
   key_fits = fits_front key middle s middle_fits
+
+  -- the middle by a lent part
+  pub middle_part : {first part : List ℕ} {k j : ℕ} → Writes key s first k → Writes middle (rest first k) part j
+      → Appends middle first (take k first ++ (part ++ drop (length first - k) (drop k first))) k (k + j)
+  middle_part one w = let more = writes_left middle one middle_fits in adds_part _ _ (omega arith) w
 
 module _ {key middle s first second : List ℕ} {k j : ℕ} (one : Writes key s first k) (two : Appends middle first second k j) where
   pub end_left : length (key ++ (middle ++ LF ∷ [])) ≤ length s → j < length second

@@ -1,14 +1,12 @@
--- The lines of the text of a book, each by its number, and an edge as the arrays hold it: what the definitions come to in each arm of `book_line`.
+-- The lines of the text of a book, each by its number: what the definitions come to in each arm of `book_line`.
 -- Not here: that these lines one behind the other are the text (crate writer); that they fit (crates writer and paging).
 -- Assumes nothing.
-use mathlib.Core.Path.{◌≡◌, refl, ap}
+use mathlib.Core.Path.{◌≡◌, ap}
 use mathlib.Core.List.{[], ◌∷◌}
 use Prim.Native.Nat.{ℕ, suc, ◌-◌, ◌≤◌}
 use native.Mathlib.Omega.{arith}
-use lib.ListN.{get_or}
 use Rattle.rule.specs.Books.{edge_of}
 use Rattle.rule.specs.declared.Book.{Book}
-use Rattle.rule.specs.Sets.{at}
 use Rattle.text.specs.Lines.{line, key_a, key_b, key_bodies, key_edges}
 use Rattle.text.specs.Sheets.{edge_text}
 use Rattle.reports.specs.Reports.{book_line}
@@ -33,8 +31,3 @@ module _ (B : Book) (i : ℕ) where
   pub line_edge : 4 ≤ i → book_line B i ≡ edge_text (edge_of B (suc (i - 4)))
   unfolding book_line
   line_edge h = let same : i ≡ suc (suc (suc (suc (i - 4)))) = omega arith in ap (book_line B) same
-
--- an edge as the arrays hold it
-pub edge_held : (B : Book) (e : ℕ) → edge_of B (suc e) ≡ record { one = get_or B.ones e 0; other = get_or B.others e 0; colour = get_or B.colours e 0 }
-unfolding edge_of at
-edge_held B e = refl

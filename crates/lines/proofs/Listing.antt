@@ -5,9 +5,10 @@
 use mathlib.Core.Path.{◌≡◌, refl, sym, ap, ◌∙◌}
 use mathlib.Core.Logic.{◌≢◌}
 use mathlib.Core.List.{List, [], ◌∷◌, ◌++◌, append_assoc}
-use Prim.Native.Nat.{ℕ, zero, suc, ◌≤◌, ◌<◌}
+use Prim.Native.Nat.{ℕ, zero, suc, ◌+◌, ◌≤◌, ◌<◌}
 use native.Mathlib.Omega.{arith}
 use lib.ListN.{length, get_or, take}
+use lib.Seq.{take-length}
 use Rattle.text.specs.Lines.{LF, comma, numeral, listed, line}
 use Rattle.lines.specs.Adding.{item}
 use Rattle.lines.proofs.Rounds.{Pieces}
@@ -40,6 +41,10 @@ listed_more (x ∷ y ∷ ys) (suc (suc i)) h =
     ap (λ (s : List ℕ). numeral x ++ comma ∷ s) (listed_more (y ∷ ys) (suc i) (omega arith))
     ∙ sym (append_assoc (numeral x) (comma ∷ listed (y ∷ take i ys)) (item (suc (suc i)) (get_or ys i 0)))
 
-pub numbers_pieces : (list : List ℕ) (n : ℕ) → n ≤ length list → Pieces (λ i. listed (take i list)) (λ i. item i (get_or list i 0)) n
+pub numbers_pieces : (list : List ℕ) → Pieces (λ i. listed (take i list)) (λ i. item i (get_or list i 0)) (length list)
 unfolding listed
-numbers_pieces list n all = record { none = refl; step = λ i h. listed_more list i (omega arith) }
+numbers_pieces list = record { none = refl; step = listed_more list }
+
+-- with as many numbers as there are, all are written
+pub numbers_room : (list : List ℕ) (at places : ℕ) → at + length (listed list) ≤ places → at + length (listed (take (length list) list)) ≤ places
+numbers_room list at places h = omega (arith, ap (λ (xs : List ℕ). length (listed xs)) (take-length list))

@@ -5,11 +5,13 @@
 -- proofs/Exchange/Walk.antt), which the tables follow by a swap; the end puts x into the forest found.
 -- Assumes nothing.
 use mathlib.Core.Path.{◌≡◌, refl, sym, ap, ap₂, ◌∙◌, subst, subst₂}
-use mathlib.Core.List.{List, ◌∷◌}
-use Prim.Native.Nat.{ℕ, suc, ◌-◌, ◌≤◌, ◌<◌}
+use mathlib.Core.List.{List, [], ◌∷◌, reverse}
+use Prim.Native.Nat.{ℕ, ◌-◌, ◌≤◌}
 use native.Mathlib.Omega.{arith}
 use lib.ListN.{length, get_or, set}
 use lib.ListN.{length-set}
+use Rattle.std.specs.List.{push}
+use Rattle.std.proofs.lemmas.List.{nil_from_length, reverse-append}
 use Rattle.rule.specs.Sets.{Is, In, put, at}
 use Rattle.rule.specs.Legal.{k}
 use Rattle.rule.specs.Forests.{limit, in_forest, Arranged}
@@ -22,9 +24,9 @@ use Rattle.theory.proofs.Exchange.Shift.{shift_is_walk}
 use Rattle.theory.proofs.Joined.Acyclic.{loopless_acyclic}
 use Rattle.theory.proofs.Legal.Kept.{limit_most}
 use Rattle.tables.specs.Tables.{Tabled}
-use Rattle.planting.specs.Calls.{Sized, Addable, Added, Swapped}
+use Rattle.planting.specs.Calls.{Addable, Added, Swapped}
 use Rattle.planting.proofs.Few.{room_left}
-use Rattle.moving.specs.Moves.{Exchangeable, Exchanged, Replanting, Replanted, backward}
+use Rattle.moving.specs.Moves.{Exchangeable, Exchanged, Replanting, Replanted}
 
 -- ---- numbers that stand at a place counted from 1
 
@@ -36,54 +38,51 @@ at_store l e v low high = subst (λ (z : ℕ). at (set l (e - 1) v) ≡ put (at 
 
 -- ---- a step of the code, from its calls
 
-pub exchange_done : (x y : ℕ) (ones others forests way edge forests' way' edge' : List ℕ) (f u v : ℕ) → f ≡ at forests y → u ≡ at ones x
-    → v ≡ at others x → Swapped f u v x y way edge way' edge' → forests' ≡ set forests (x - 1) f
+-- g is y's forest as it was read, and f the same as it was passed on
+pub exchange_done : (x y : ℕ) (ones others forests way edge forests' way' edge' : List ℕ) (g f u v : ℕ) → g ≡ at forests y → f ≡ at forests y
+    → u ≡ at ones x → v ≡ at others x → Swapped f u v x y way edge way' edge' → forests' ≡ set forests (x - 1) g
     → Exchanged x y ones others forests way edge forests' way' edge'
-exchange_done x y ones others forests way edge forests' way' edge' f u v qf qu qv sw st =
+exchange_done x y ones others forests way edge forests' way' edge' g f u v qg qf qu qv sw st =
     record {
-      stands = subst (λ (z : ℕ). forests' ≡ set forests (x - 1) z) qf st;
+      stands = subst (λ (z : ℕ). forests' ≡ set forests (x - 1) z) qg st;
       swaps =
           subst (λ (z : ℕ). Swapped z (at ones x) (at others x) x y way edge way' edge') qf
           (subst₂ (λ (s t : ℕ). Swapped f s t x y way edge way' edge') qu qv sw);
     }
 
-module _ {n number found : ℕ} {path ones others forests root way who edge size : List ℕ}
-    (t : Replanting n number found path ones others forests root way who edge size) where
+module _ {number found : ℕ} {path ones others forests root way who edge size : List ℕ}
+    (t : Replanting number found path ones others forests root way who edge size) where
   -- the forests, but x stands nowhere
   abbrev less : List ℕ → ℕ → ℕ → ℕ
   less forests' x = put (at forests') x 0
 
-  -- x stands nowhere, and the first i edges of the path are still to move
-  pub record Walking (forests' way' edge' : List ℕ) (i x : ℕ) : Type 0 where
-    pub start : Start t.d (less forests' x) x (backward path i)
+  -- x stands nowhere, and the edges of `left` are still to move
+  pub record Walking (forests' way' edge' : List ℕ) (left : List ℕ) (x : ℕ) : Type 0 where
+    pub start : Start t.d (less forests' x) x (left)
     pub arranged : Arranged t.d (less forests' x)
-    pub free : Free t.d (less forests' x) (end x (backward path i)) found
+    pub free : Free t.d (less forests' x) (end x (left)) found
     pub tabled : Tabled t.d (less forests' x) root way' who edge' size
-    pub walks : put (walked (less forests' x) x (backward path i)) (end x (backward path i)) found ≡ shifted (at forests) (number ∷ backward path n) found
-    pub sized : Sized root way' who edge' size
+    pub walks : put (walked (less forests' x) x (left)) (end x (left)) found ≡ shifted (at forests) (number ∷ reverse path) found
     pub forests_long : length forests' ≡ 512
-    pub places : i ≤ n
 
   -- ---- before the first step
 
-  pub walking_start : Walking forests way edge n number
+  pub walking_start : Walking forests way edge (reverse path) number
   walking_start =
       let same : at forests ≡ less forests number = sym (put_id (at forests) number 0 t.start.unplaced) in
       record {
-        start = subst (λ (g : ℕ → ℕ). Start t.d g number (backward path n)) same t.start;
+        start = subst (λ (g : ℕ → ℕ). Start t.d g number (reverse path)) same t.start;
         arranged = subst (Arranged t.d) same t.arranged;
-        free = subst (λ (g : ℕ → ℕ). Free t.d g (end number (backward path n)) found) same t.free;
+        free = subst (λ (g : ℕ → ℕ). Free t.d g (end number (reverse path)) found) same t.free;
         tabled = subst (λ (g : ℕ → ℕ). Tabled t.d g root way who edge size) same t.tabled;
         walks =
             subst
             (λ (g : ℕ → ℕ).
-            put (walked g number (backward path n)) (end number (backward path n)) found
-            ≡ shifted (at forests) (number ∷ backward path n) found)
+            put (walked g number (reverse path)) (end number (reverse path)) found
+            ≡ shifted (at forests) (number ∷ reverse path) found)
             same
-            (sym (shift_is_walk (at forests) number (backward path n) found t.start.distinct));
-        sized = t.sized;
+            (sym (shift_is_walk (at forests) number (reverse path) found t.start.distinct));
         forests_long = t.forests_long;
-        places = omega arith;
       }
 
   number_range : (e : ℕ) → In t.d.m e → In 512 e
@@ -101,15 +100,23 @@ module _ {n number found : ℕ} {path ones others forests root way who edge size
   limit_range : (e f : ℕ) → 1 ≤ f → f ≤ limit t.d e → In 6 f
   limit_range e f low high = record { low = low; high = omega (arith, high, limit_most t.d e, t.drawn.forests) }
 
+  -- ---- the iterator over the path: what it has still to give, from the back
+
+  pub one_more : (forests' way' edge' rest rest' : List ℕ) (x y : ℕ) → rest ≡ push rest' y → Walking forests' way' edge' (reverse rest) x
+      → Walking forests' way' edge' (y ∷ reverse rest') x
+  one_more forests' way' edge' rest rest' x y q =
+      subst (λ (l : List ℕ). Walking forests' way' edge' l x) (ap reverse q ∙ reverse-append rest' (y ∷ []))
+
+  pub none_left : (forests' way' edge' rest : List ℕ) (x : ℕ) → length rest ≡ 0 → Walking forests' way' edge' (reverse rest) x
+      → Walking forests' way' edge' [] x
+  none_left forests' way' edge' rest x q =
+      subst (λ (l : List ℕ). Walking forests' way' edge' l x) (ap reverse (nil_from_length rest q))
+
   -- ---- one step
 
-  module _ (forests' way' edge' : List ℕ) (i x : ℕ) (w : Walking forests' way' edge' (suc i) x) where
-    abbrev y : ℕ
-    y = get_or path i 0
-
+  module _ (forests' way' edge' left : List ℕ) (x y : ℕ) (w : Walking forests' way' edge' (y ∷ left) x) where
     -- the path that is left
-    start : Start t.d (less forests' x) x (y ∷ backward path i)
-    unfolding backward
+    start : Start t.d (less forests' x) x (y ∷ left)
     start = w.start
 
     stays : less forests' x y ≡ at forests' y
@@ -119,19 +126,14 @@ module _ {n number found : ℕ} {path ones others forests root way who edge size
     y_range =
         subst (In 6) stays (limit_range x (less forests' x y) start.path.0.placed start.path.0.allowed)
 
-    pub can_exchange : Exchangeable x y ones others forests' way' edge'
-    can_exchange =
+    pub can_step : Exchangeable x y ones others forests'
+    can_step =
         record {
           x_number = number_range x start.edge;
           y_number = number_range y start.edges.0;
           stands = y_range;
           one = one_range x start.edge;
           other = other_range x start.edge;
-          ones_long = t.drawn.ones_long;
-          others_long = t.drawn.others_long;
-          forests_long = w.forests_long;
-          way_long = w.sized.way_long;
-          edge_long = w.sized.edge_long;
         }
 
     module _ (forests'' way'' edge'' : List ℕ) (e : Exchanged x y ones others forests' way' edge' forests'' way'' edge'') where
@@ -153,54 +155,29 @@ module _ {n number found : ℕ} {path ones others forests root way who edge size
           (w.arranged.loopless (at forests' y) (record { low = y_range.low; high = omega (arith, stays, start.path.0.allowed, limit_most t.d x) }))
           w.tabled
 
-      pub walking_on : Walking forests'' way'' edge'' i y
-      unfolding backward walked
-      walking_on =
+      pub walking_step : Walking forests'' way'' edge'' left y
+      unfolding walked
+      walking_step =
           record {
-            start = subst (λ (g : ℕ → ℕ). Start t.d g y (backward path i)) now (onward t.d (less forests' x) x y (backward path i) start);
-            arranged = subst (Arranged t.d) now (arranged_onward t.d (less forests' x) x y (backward path i) start w.arranged);
+            start = subst (λ (g : ℕ → ℕ). Start t.d g y (left)) now (onward t.d (less forests' x) x y (left) start);
+            arranged = subst (Arranged t.d) now (arranged_onward t.d (less forests' x) x y (left) start w.arranged);
             free =
-                subst (λ (g : ℕ → ℕ). Free t.d g (end y (backward path i)) found) now
-                (free_onward t.d (less forests' x) x y (backward path i) start (end y (backward path i)) found w.free);
+                subst (λ (g : ℕ → ℕ). Free t.d g (end y (left)) found) now
+                (free_onward t.d (less forests' x) x y (left) start (end y (left)) found w.free);
             tabled = subst (λ (g : ℕ → ℕ). Tabled t.d g root way'' who edge'' size) now swapped;
             walks =
                 subst
                 (λ (g : ℕ → ℕ).
-                put (walked g y (backward path i)) (end y (backward path i)) found
-                ≡ shifted (at forests) (number ∷ backward path n) found)
+                put (walked g y (left)) (end y (left)) found
+                ≡ shifted (at forests) (number ∷ reverse path) found)
                 now w.walks;
-            sized =
-                record {
-                  root_long = w.sized.root_long;
-                  way_long = e.swaps.way_long;
-                  who_long = w.sized.who_long;
-                  edge_long = e.swaps.edge_long;
-                  size_long = w.sized.size_long;
-                };
             forests_long = ap length e.stands ∙ length-set forests' (x - 1) (at forests' y) ∙ w.forests_long;
-            places = omega (arith, w.places);
           }
-
-  -- the same, where i edges are left
-  module _ (forests' way' edge' : List ℕ) (i x : ℕ) (more : 0 < i) (w : Walking forests' way' edge' i x) where
-    one_more : Walking forests' way' edge' (suc (i - 1)) x
-    one_more = subst (λ (z : ℕ). Walking forests' way' edge' z x) (omega arith) w
-
-    pub can_step : Exchangeable x (get_or path (i - 1) 0) ones others forests' way' edge'
-    can_step = can_exchange forests' way' edge' (i - 1) x one_more
-
-    pub walking_step : (forests'' way'' edge'' : List ℕ) → Exchanged x (get_or path (i - 1) 0) ones others forests' way' edge' forests'' way'' edge''
-        → Walking forests'' way'' edge'' (i - 1) (get_or path (i - 1) 0)
-    walking_step = walking_on forests' way' edge' (i - 1) x one_more
 
   -- ---- after the last step
 
-  module _ (forests' way' edge' : List ℕ) (i x : ℕ) (none : i ≡ 0) (walking : Walking forests' way' edge' i x) where
-    w : Walking forests' way' edge' 0 x
-    w = subst (λ (z : ℕ). Walking forests' way' edge' z x) none walking
-
+  module _ (forests' way' edge' : List ℕ) (x : ℕ) (w : Walking forests' way' edge' [] x) where
     free : Free t.d (less forests' x) x found
-    unfolding backward
     free = w.free
 
     here : In t.d.m x
@@ -215,16 +192,18 @@ module _ {n number found : ℕ} {path ones others forests root way who edge size
     pub last_number : In 512 x
     last_number = number_range x here
 
-    module _ (u v : ℕ) (is_u : u ≡ at ones x) (is_v : v ≡ at others x) where
+    -- f, u and v as they are passed on
+    module _ (f u v : ℕ) (is_f : f ≡ found) (is_u : u ≡ at ones x) (is_v : v ≡ at others x) where
       u_range : In 64 u
       u_range = subst (In 64) (sym is_u) (one_range x here)
 
       v_range : In 64 v
       v_range = subst (In 64) (sym is_v) (other_range x here)
 
-      pub can_add : Addable found u v root way' who edge' size
+      pub can_add : Addable f u v root size
       can_add =
-          record {
+          subst (λ (z : ℕ). Addable z u v root size) (sym is_f)
+          (record {
             forest = found_range;
             one = u_range;
             other = v_range;
@@ -235,11 +214,13 @@ module _ {n number found : ℕ} {path ones others forests root way who edge size
                 (λ e h _. (t.drawn.ends.one e h, t.drawn.ends.other e h))
                 (loopless_acyclic t.d (in_forest (less forests' x) found) (w.arranged.loopless found found_forest))
                 here (t.drawn.ends.one x here, t.drawn.ends.other x here) free.not_joined;
-            sized = w.sized;
-          }
+          })
 
-      module _ (forests'' root'' way'' who'' edge'' size'' : List ℕ) (added : Added found u v x root way' who edge' size root'' way'' who'' edge'' size'')
+      module _ (forests'' root'' way'' who'' edge'' size'' : List ℕ) (adds : Added f u v x root way' who edge' size root'' way'' who'' edge'' size'')
           (store : forests'' ≡ set forests' (x - 1) found) where
+        added : Added found u v x root way' who edge' size root'' way'' who'' edge'' size''
+        added = subst (λ (z : ℕ). Added z u v x root way' who edge' size root'' way'' who'' edge'' size'') is_f adds
+
         landed : at forests'' ≡ put (less forests' x) x found
         landed =
             ap at store
@@ -257,7 +238,7 @@ module _ {n number found : ℕ} {path ones others forests root way who edge size
         apart h = free.not_joined (subst₂ (λ (u v : ℕ). Is (joined t.d (in_forest (less forests' x) found) u v)) (sym one_is) (sym other_is) h)
 
         pub walked_all : Replanted t forests'' root'' way'' who'' edge'' size''
-        unfolding backward walked
+        unfolding walked
         walked_all =
             record {
               shifts = landed ∙ w.walks;

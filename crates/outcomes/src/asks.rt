@@ -1,77 +1,55 @@
 // Lines that ask about the book as it is, and leave it so.
-use crate::changes;
-use cases::keys::Told;
-use cases::say;
+use crate::commands::Named;
+use cases::say::{self, Numbers, Word};
 use rule::Book;
+use std::io;
 
-fn question(book: Book, n: Told, list: &mut [u16]) {
-    let answer = step::question(book, n.one, n.two, n.three, list);
-    say::answer(answer, list);
-}
-
-// The same edge asked about and offered, with one list.
-fn both(book: Book, n: Told, list: &mut [u16]) {
-    say::text(b" question");
-    question(book, n, list);
-    say::text(b" offer");
-    changes::offer(book, n, list, true);
-}
-
-// The list has as many places as the line says.
-fn ask(book: Book, n: Told) {
+// The same edge asked about and offered, with one list that has as many places as the line says.
+pub fn ask(rt: &impl Print, edge: Named, places: usize, book: &Book) -> io::Result<()> {
     let mut space = [0u16; 378];
-    let list: &mut [u16] = &mut space;
-    let places = n.four;
-    if places <= list.len() {
-        both(book, n, &mut list[..places]);
-    }
+    let Some(list) = space.get_mut(..places) else {
+        return Ok(());
+    };
+    let asked = step::question(*book, edge.one, edge.other, edge.colour, list);
+    print!(rt; " question")?;
+    say::answer(rt, asked, list)?;
+    let offered = step::offer(*book, edge.one, edge.other, edge.colour, list);
+    print!(rt; " offer")?;
+    say::answer(rt, offered.answer, list)
 }
 
 // An edge is offered with a list of sevens, whose first places are written then: past the answer they are sevens still.
-fn lent(book: Book, n: Told) {
+pub fn lent(rt: &impl Print, edge: Named, book: &Book) -> io::Result<()> {
     let mut list = [7u16; 380];
-    changes::offer(book, n, &mut list, true);
-    say::text(b" list=");
-    say::numbers(&list, 4);
+    let offered = step::offer(*book, edge.one, edge.other, edge.colour, &mut list);
+    say::answer(rt, offered.answer, &list)?;
+    print!(rt; " list={}", Numbers(&list[..4]))
 }
 
 // A group list of so many places.
-fn short_groups(book: Book, n: Told) {
+pub fn short_groups(rt: &impl Print, places: usize, book: &Book) -> io::Result<()> {
     let mut space = [0u8; 64];
-    let list: &mut [u8] = &mut space;
-    let places = n.one;
-    if places <= list.len() {
-        say::done(groups::groups(book, &mut list[..places]));
+    match space.get_mut(..places) {
+        Some(list) => say::done(rt, groups::groups(*book, list)),
+        None => Ok(()),
     }
 }
 
-fn group_list(book: Book) {
+fn group_list(rt: &impl Print, book: &Book) -> io::Result<()> {
     let mut list = [0u8; 64];
-    let r = groups::groups(book, &mut list);
-    let n = book.n;
-    say::grouped(r, &list, n);
+    let grouped = groups::groups(*book, &mut list);
+    let leaders = Numbers::first(&list, usize::from(book.n));
+    say::found(rt, "groups", grouped.map(|()| leaders))
 }
 
-fn free(book: Book) {
-    say::figure(b" free", book::freedom(book));
+pub fn free(rt: &impl Print, book: &Book) -> io::Result<()> {
+    say::found(rt, "free", book::freedom(*book))
 }
 
 // Everything that is asked of a book at its end.
-fn close(book: Book) {
-    free(book);
-    say::figure(b" dropped", book::dropped(book));
-    say::judged(book::verdict(book));
-    group_list(book);
-}
-
-pub fn answer(book: Book, n: Told) {
-    let letter = n.letter;
-    match letter {
-        b'a' => ask(book, n),
-        b'l' => lent(book, n),
-        b'f' => free(book),
-        b'c' => close(book),
-        b'g' => short_groups(book, n),
-        _ => {}
-    }
+pub fn close(rt: &impl Print, book: &Book) -> io::Result<()> {
+    free(rt, book)?;
+    say::found(rt, "dropped", book::dropped(*book))?;
+    say::found(rt, "verdict", book::verdict(*book).map(Word))?;
+    group_list(rt, book)
 }

@@ -1,60 +1,47 @@
 // Lines that change the book: calls, with what they answer written, and edits that may damage it.
-use cases::keys::Told;
+use crate::commands::Named;
 use cases::say;
 use rule::Book;
+use std::io;
 
 // ---- the calls
 
-fn open(n: Told) -> Book {
-    let r = book::open(n.one, n.two, n.three);
-    let answer = r.answer;
-    say::done(answer);
-    r.book
+pub fn open(rt: &impl Print, [a, b, bodies]: [usize; 3], book: &mut Book) -> io::Result<()> {
+    let opened = book::open(a, b, bodies);
+    *book = opened.book;
+    say::done(rt, opened.answer)
 }
 
-// The edge from `one` to `two` of colour `three`, with any list, and with the answer written or not.
-pub fn offer(book: Book, n: Told, list: &mut [u16], loud: bool) -> Book {
-    let r = step::offer(book, n.one, n.two, n.three, list);
-    let answer = r.answer;
-    if loud {
-        say::answer(answer, list);
-    }
-    r.book
-}
-
-fn coloured(book: Book, n: Told, colour: usize, loud: bool) -> Book {
+// The edge is offered, and the answer written.
+pub fn offer(rt: &impl Print, edge: Named, book: &mut Book) -> io::Result<()> {
     let mut list = [0u16; 378];
-    let mut edge = n;
-    edge.three = colour;
-    offer(book, edge, &mut list, loud)
+    let offered = step::offer(*book, edge.one, edge.other, edge.colour, &mut list);
+    *book = offered.book;
+    say::answer(rt, offered.answer, &list)
 }
 
 // ---- large books
 
 // The same edge is offered so many times, and nothing is written.
-fn several(book: Book, n: Told, colour: usize, times: usize) -> Book {
-    let mut next = book;
-    let mut i: usize = 0;
-    while i < times {
-        next = coloured(next, n, colour, false);
-        i = i + 1;
+pub fn several(edge: Named, times: usize, book: &mut Book) {
+    let mut list = [0u16; 378];
+    for _ in 0..times {
+        *book = step::offer(*book, edge.one, edge.other, edge.colour, &mut list).book;
     }
-    next
 }
 
 // Between each two of the bodies 1 to 64 that follow each other, so many red and black edges.
-fn pairs(book: Book, n: Told) -> Book {
-    let mut next = book;
-    let mut edge = n;
-    let mut u: usize = 1;
-    while u < 64 {
-        edge.one = u;
-        edge.two = u + 1;
-        next = several(next, edge, 1, n.one);
-        next = several(next, edge, 2, n.two);
-        u = u + 1;
+pub fn pairs([reds, blacks]: [usize; 2], book: &mut Book) {
+    for one in 1..64 {
+        for (colour, times) in [(1, reds), (2, blacks)] {
+            let edge = Named {
+                one,
+                other: one + 1,
+                colour,
+            };
+            several(edge, times, book);
+        }
     }
-    next
 }
 
 // ---- edits
@@ -63,10 +50,10 @@ fn pairs(book: Book, n: Told) -> Book {
 pub fn strewn(a: u8, b: u8, n: u8, count: u16, x: u8) -> Book {
     let all = [x; 512];
     Book {
-        a: a,
-        b: b,
-        n: n,
-        count: count,
+        a,
+        b,
+        n,
+        count,
         ones: all,
         others: all,
         colours: all,
@@ -79,43 +66,23 @@ fn small(x: usize) -> u8 {
     (x % 256) as u8
 }
 
-fn head(n: Told) -> Book {
-    let count = (n.four % 65536) as u16;
+pub fn head([a, b, bodies, count, x]: [usize; 5]) -> Book {
     strewn(
-        small(n.one),
-        small(n.two),
-        small(n.three),
-        count,
-        small(n.five),
+        small(a),
+        small(b),
+        small(bodies),
+        (count % 65536) as u16,
+        small(x),
     )
 }
 
-// The book with an edge in a place, counted from 1.
-fn with(book: Book, n: Told) -> Book {
-    let mut next = book;
-    let place = n.one;
-    if 0 < place {
-        if place <= 512 {
-            let e = place - 1;
-            next.ones[e] = small(n.two);
-            next.others[e] = small(n.three);
-            next.colours[e] = small(n.four);
-            next.forests[e] = small(n.five);
-        }
-    }
-    next
-}
-
-pub fn change(book: Book, n: Told) -> Book {
-    let letter = n.letter;
-    match letter {
-        b'o' => open(n),
-        b'r' => coloured(book, n, 1, true),
-        b'b' => coloured(book, n, 2, true),
-        b't' => several(book, n, n.three, n.four),
-        b'p' => pairs(book, n),
-        b'h' => head(n),
-        b'e' => with(book, n),
-        _ => book,
+// An edge, with its forest, in a place of the book, counted from 1.
+pub fn put(place: usize, edge: Named, forest: usize, book: &mut Book) {
+    if 0 < place && place <= 512 {
+        let e = place - 1;
+        book.ones[e] = small(edge.one);
+        book.others[e] = small(edge.other);
+        book.colours[e] = small(edge.colour);
+        book.forests[e] = small(forest);
     }
 }

@@ -5,73 +5,57 @@
 
 mod asks;
 mod changes;
+mod commands;
 
-use cases::keys::Told;
-use cases::say;
+use commands::Command;
 use rule::Book;
+use std::io::Result;
 
-// A line that begins a case ends the one before. Answers whether there is one now.
-fn begun(line: &[u8], open: bool) -> bool {
-    if cases::names(line) {
-        if open {
-            say::text(b"\n");
+fn carry_out(rt: &impl Print, command: Command, book: &mut Book) -> Result<()> {
+    match command {
+        Command::Open(head) => changes::open(rt, head, book)?,
+        Command::Offer(edge) => changes::offer(rt, edge, book)?,
+        Command::Times(edge, times) => changes::several(edge, times, book),
+        Command::Pairs(times) => changes::pairs(times, book),
+        Command::Head(numbers) => *book = changes::head(numbers),
+        Command::Put(place, edge, forest) => changes::put(place, edge, forest, book),
+        Command::Ask(edge, places) => asks::ask(rt, edge, places, book)?,
+        Command::Lent(edge) => asks::lent(rt, edge, book)?,
+        Command::Free => asks::free(rt, book)?,
+        Command::Close => asks::close(rt, book)?,
+        Command::Groups(places) => asks::short_groups(rt, places, book)?,
+    }
+    Ok(())
+}
+
+// A line that begins a case ends the one before. Every case begins with a book of zeros.
+fn run(rt: &impl Print, file: &[u8]) -> Result<()> {
+    let zeros = changes::strewn(0, 0, 0, 0, 0);
+    let mut book = zeros;
+    let mut begun = false;
+    for (i, line) in file.split_inclusive(|x| *x == b'\n').enumerate() {
+        if cases::silent(line) {
+            continue;
         }
-        cases::write_name(line);
-        return true;
+        if let Some(name) = cases::name(line) {
+            if begun {
+                println!(rt; "")?;
+            }
+            rt.write_all(name)?;
+            book = zeros;
+            begun = true;
+        } else if let Some(command) = commands::read(line) {
+            carry_out(rt, command, &mut book)?;
+        } else {
+            cases::bad(rt, i + 1)?;
+        }
     }
-    open
+    println!(rt; "")
 }
 
-// What a line says, by the keys that the file stdin explains, each with the number of its numbers.
-fn told(line: &[u8]) -> Told {
-    cases::keys::read(
-        b"open=  3red=   2black= 2times= 4pairs= 2head=  5edge=  5ask=   4lent=  3free   0close  0groups=1",
-        line,
-    )
-}
-
-// A line below a case's name is carried out.
-fn carried_out(line: &[u8], number: usize, book: Book) -> Book {
-    let n = told(line);
-    if n.letter == 0 {
-        cases::bad(number);
-        return book;
-    }
-    asks::answer(book, n);
-    changes::change(book, n)
-}
-
-// Every case begins with a book of zeros.
-fn take_line(line: &[u8], number: usize, book: Book) -> Book {
-    if cases::silent(line) {
-        return book;
-    }
-    if cases::names(line) {
-        return changes::strewn(0, 0, 0, 0, 0);
-    }
-    carried_out(line, number, book)
-}
-
-fn run(file: &[u8]) {
-    let mut book = changes::strewn(0, 0, 0, 0, 0);
-    let mut open = false;
-    let mut at = 0;
-    let mut number = 0;
-    while at < file.len() {
-        let next = cases::past_line(file, at);
-        let line = &file[at..next];
-        number += 1;
-        open = begun(line, open);
-        book = take_line(line, number, book);
-        at = next;
-    }
-    say::text(b"\n");
-}
-
-fn main() {
+// A write that fails ends the program, and is not told, as it never was: what the program does may not change.
+fn main(rt: HostRuntime) {
     let mut file = [0u8; 65536];
-    let input: &mut [u8] = &mut file;
-    let n = io::read_full(0, input);
-    let whole = &input[..];
-    run(&whole[..n]);
+    let n = io::read_full(0, &mut file);
+    let _ = run(&rt, &file[..n]);
 }

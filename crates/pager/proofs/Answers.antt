@@ -1,7 +1,8 @@
 -- What a page answers, case by case: of a book that is not sound, lent a buffer that is too short, of one whose lines have all come, of one with lines
 -- to come; and of a refused text, which has one line.
 -- Assumes nothing.
-use mathlib.Core.Path.{◌≡◌, refl, sym, ap, ◌∙◌, subst}
+use Rattle.std.specs.Prelude.{Result, Ok, Err}
+use mathlib.Core.Path.{◌≡◌, refl, sym, ap, subst}
 use mathlib.Core.Logic.{◌⊎◌, inl, inr}
 use mathlib.Core.List.{List}
 use Prim.Native.Nat.{ℕ, suc, ◌+◌, ◌≤◌, ◌<◌}
@@ -11,9 +12,7 @@ use Rattle.rule.specs.declared.Reason.{Reason}
 use Rattle.rule.specs.Books.{Sound}
 use Rattle.rule.specs.Reasons.{Fail, book_checks}
 use Rattle.text.specs.Puts.{Writes}
-use Rattle.book.specs.declared.Checked.{Checked}
-use Rattle.book.specs.Checks.{FoundBy}
-use Rattle.reports.specs.declared.Received.{Received}
+use Rattle.text.specs.declared.Refusal.{Refusal}
 use Rattle.reports.specs.declared.State.{State}
 use Rattle.reports.specs.declared.Line.{Line}
 use Rattle.reports.specs.declared.Stepped.{Stepped}
@@ -21,13 +20,12 @@ use Rattle.reports.specs.Reports.{refused_line}
 use Rattle.reports.specs.Steps.{Form, lines_of, LineOf, written, line_room, Readable, step_checks, Lines, PageOf, Page}
 use Rattle.reports.specs.Steps.Lines.{none, then}
 use Rattle.pager.specs.declared.PageEnd.{PageEnd}
-use Rattle.pager.specs.Kinds.{line_from}
 use Rattle.pager.specs.Lent.{FullRun}
 
 -- a refused text has no book to be sound
-pub none_to_read : (state : State) (reason : Reason) (number : ℕ) → state.received ≡ Received.Refused reason number
+pub none_to_read : (state : State) (refusal : Refusal) → state.received ≡ Err refusal
     → Readable state.book state.received
-none_to_read state reason number refused = subst (Readable state.book) (sym refused) tt
+none_to_read state refusal refused = subst (Readable state.book) (sym refused) tt
 
 module _ (form : Form) (state : State) (buffer : List ℕ) where
   -- what the function `short` answers, where check 8 passed and the buffer is too short; nothing is changed
@@ -39,7 +37,7 @@ module _ (form : Form) (state : State) (buffer : List ℕ) where
 
   -- ---- of a book
 
-  module _ (fine : state.received ≡ Received.Fine) where
+  module _ (fine : state.received ≡ Ok tt) where
     pub readable : Sound state.book → Readable state.book state.received
     readable sound = subst (Readable state.book) (sym fine) sound
 
@@ -53,14 +51,11 @@ module _ (form : Form) (state : State) (buffer : List ℕ) where
     unsound_refused reason (inl f) = inl (unreadable f.0, f.1, f.2)
     unsound_refused reason (inr f) = absurd f.1
 
-    pub book_refused : (more : Type 0) (c : Checked) (reason : Reason) → c ≡ Checked.Refused reason → FoundBy (book_checks state.book) more c
-        → (answer : Line) → answer ≡ line_from c → Page form state state buffer buffer answer
-    book_refused more c reason q found answer handed =
-        subst (Page form state state buffer buffer) (sym (handed ∙ ap line_from q))
-        (unsound_refused reason (subst (FoundBy (book_checks state.book) more) q found), refl, refl)
+    pub book_refused : (reason : Reason) → Fail (book_checks state.book) reason → Page form state state buffer buffer (Line.Refused reason)
+    book_refused reason fails = (unsound_refused reason fails, refl, refl)
 
 module _ (form : Form) (state : State) (buffer : List ℕ) (room : line_room ≤ length buffer) where
-  module _ (fine : state.received ≡ Received.Fine) where
+  module _ (fine : state.received ≡ Ok tt) where
     pub book_over : Sound state.book → form.number state.book ≤ state.line → Page form state state buffer buffer Line.Over
     book_over sound past = (
       (readable form state buffer fine sound, (room, tt)),
@@ -79,7 +74,7 @@ module _ (form : Form) (state : State) (buffer : List ℕ) (room : line_room ≤
           more = subst (λ (z : ℕ). state.line < z) (sym (number_of form state buffer fine)) less;
           bytes = full.run.bytes;
           are_lines =
-              subst (λ (z : Received). Lines form state.book z (length buffer) state.line filled.line full.run.bytes) (sym fine)
+              subst (λ (z : Result Unit Refusal). Lines form state.book z (length buffer) state.line filled.line full.run.bytes) (sym fine)
               full.run.are_lines;
           writes = full.run.writes;
           further = refl;
@@ -88,31 +83,31 @@ module _ (form : Form) (state : State) (buffer : List ℕ) (room : line_room ≤
 
   -- ---- of a refused text
 
-  module _ (reason : Reason) (number : ℕ) (refused : state.received ≡ Received.Refused reason number) where
+  module _ (refusal : Refusal) (refused : state.received ≡ Err refusal) where
     one_line : lines_of form state.book state.received ≡ 1
     one_line = ap (lines_of form state.book) refused
 
     allowed : Readable state.book state.received
-    allowed = none_to_read state reason number refused
+    allowed = none_to_read state refusal refused
 
     pub refused_over : 0 < state.line → Page form state state buffer buffer Line.Over
     refused_over past = ((allowed, (room, tt)), omega (arith, one_line), refl, refl)
 
-    pub refused_line_lem : state.line ≡ 0 → (buffered : List ℕ) (size : ℕ) → Writes (refused_line reason number) buffer buffered size → (after : State)
+    pub refused_line_lem : state.line ≡ 0 → (buffered : List ℕ) (size : ℕ) → Writes (refused_line refusal.reason refusal.line) buffer buffered size → (after : State)
         → after ≡ written state 1 → Page form state after buffer buffered (Line.Written size)
     refused_line_lem first buffered size writes after is =
         subst (λ (s : State). PageOf form state s buffer buffered size) (sym is)
         (record {
           checked = (allowed, (room, tt));
           more = omega (arith, one_line);
-          bytes = refused_line reason number;
+          bytes = refused_line refusal.reason refusal.line;
           are_lines =
-              subst (λ (z : ℕ). Lines form state.book state.received (length buffer) state.line z (refused_line reason number)) (ap suc first)
-              (then (refused_line reason number) none (omega arith) (omega (arith, one_line)) says);
+              subst (λ (z : ℕ). Lines form state.book state.received (length buffer) state.line z (refused_line refusal.reason refusal.line)) (ap suc first)
+              (then (refused_line refusal.reason refusal.line) none (omega arith) (omega (arith, one_line)) says);
           writes = writes;
           further = refl;
           whole = inl (omega (arith, one_line));
         })
       where
-        says : LineOf form state.book state.received state.line (refused_line reason number)
-        says = subst (λ (z : Received). LineOf form state.book z state.line (refused_line reason number)) (sym refused) refl
+        says : LineOf form state.book state.received state.line (refused_line refusal.reason refusal.line)
+        says = subst (λ (z : Result Unit Refusal). LineOf form state.book z state.line (refused_line refusal.reason refusal.line)) (sym refused) refl

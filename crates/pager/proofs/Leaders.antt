@@ -2,6 +2,7 @@
 --
 -- The first n places of the widened list are those of the list, which are the group list of the book.
 -- Assumes nothing.
+use Rattle.std.specs.Prelude.{Ok}
 use mathlib.Core.Path.{◌≡◌, refl, sym, ap, ◌∙◌, subst}
 use mathlib.Core.List.{List}
 use Prim.Native.Nat.{ℕ, ◌≤◌}
@@ -9,7 +10,6 @@ use native.Mathlib.Omega.{arith}
 use lib.ListN.{length, take, drop, length-append}
 use lib.Seq.{length-take-le, take_at}
 use Rattle.rule.specs.declared.Book.{Book}
-use Rattle.rule.specs.declared.Done.{Done}
 use Rattle.rule.specs.Figures.{Groups}
 use Rattle.rule.specs.Books.{design_of, kept_of, Sound}
 use Rattle.rule.specs.Calls.{Filled, Grouped}
@@ -25,14 +25,14 @@ module _ (B : Book) (sound : Sound B) where
   pub bodies_few : B.n ≤ 64
   bodies_few = (sound_head B sound).bodies.high
 
-  module _ (list listed : List ℕ) (grouped : Grouped B list listed Done.Fine) where
+  module _ (list listed : List ℕ) (grouped : Grouped B list listed (Ok tt)) where
     pub listed_long : B.n ≤ length listed
     listed_long = omega (arith, bodies_few, grouped.0.1.0, grouped.3)
 
-    module _ (wide widened : List ℕ) (is : Filled (take B.n listed) wide widened) where
-      first_long : length (take B.n listed) ≡ B.n
-      first_long = length-take-le B.n listed listed_long
+    pub first_long : length (take B.n listed) ≡ B.n
+    first_long = length-take-le B.n listed listed_long
 
+    module _ (wide widened : List ℕ) (is : Filled (take B.n listed) wide widened) where
       pub widened_long : B.n ≤ length widened
       widened_long =
           omega (arith, first_long, ap length is, length-append (take B.n listed) (drop (length (take B.n listed)) wide))

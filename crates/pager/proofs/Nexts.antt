@@ -4,18 +4,18 @@
 -- A second line would be begun with a line's room left; but the first one has a byte (Rooms.antt), so that less is left. And one line there
 -- is, since a page that has lines to come writes as many as have room. The places past those that are lent stay as they are.
 -- Assumes nothing.
-use mathlib.Core.Path.{◌≡◌, refl, sym, ap, ◌∙◌}
+use Rattle.std.specs.Prelude.{Result}
+use mathlib.Core.Path.{◌≡◌, refl, ap, ◌∙◌}
 use mathlib.Core.Logic.{◌⊎◌, inl, inr, ⊎_elim}
-use mathlib.Core.List.{List, [], ◌++◌, append_assoc}
+use mathlib.Core.List.{List, [], ◌++◌}
 use Prim.Native.Nat.{ℕ, suc, ◌+◌, ◌≤◌, ◌<◌}
 use native.Mathlib.Omega.{arith}
 use lib.ListN.{length, take, drop, length-append, take-append-drop}
-use lib.Seq.{length-take-le, drop-append-le}
+use lib.Seq.{length-take-le}
 use Rattle.rule.specs.declared.Book.{Book}
 use Rattle.rule.specs.declared.Reason.{Reason}
 use Rattle.rule.specs.Reasons.{Pass, Fail}
-use Rattle.text.specs.Puts.{Writes}
-use Rattle.reports.specs.declared.Received.{Received}
+use Rattle.text.specs.declared.Refusal.{Refusal}
 use Rattle.reports.specs.declared.State.{State}
 use Rattle.reports.specs.declared.Line.{Line}
 use Rattle.reports.specs.Steps.{LineOf, written, line_room, step_checks, NextLine, Next, Lines, PageOf, Page}
@@ -23,17 +23,17 @@ use Rattle.reports.specs.Steps.Lines.{none, then}
 use Rattle.pager.specs.declared.Kind.{Kind}
 use Rattle.pager.specs.Kinds.{form_of}
 use Rattle.pager.proofs.Rooms.{no_line_empty}
-use Rattle.pager.proofs.Runs.{writes_within}
+use Rattle.pager.proofs.Runs.{writes_whole}
 
 -- where a line stands there is no room for another
-no_second : (kind : Kind) (B : Book) (received : Received) {places i j : ℕ} {bytes : List ℕ} (more : List ℕ)
+no_second : (kind : Kind) (B : Book) (received : Result Unit Refusal) {places i j : ℕ} {bytes : List ℕ} (more : List ℕ)
     → Lines (form_of kind) B received places i j bytes → LineOf (form_of kind) B received j more → length (bytes ++ more) + line_room ≤ places
     → places ≡ line_room → ⊥
 no_second kind B received {j = j} {bytes} more earlier is room all =
     omega (arith, length-append bytes more, no_line_empty kind B received j more is)
 
 -- so there is no line, or one
-alone : (kind : Kind) (B : Book) (received : Received) {places i j : ℕ} {bytes : List ℕ} → places ≡ line_room
+alone : (kind : Kind) (B : Book) (received : Result Unit Refusal) {places i j : ℕ} {bytes : List ℕ} → places ≡ line_room
     → Lines (form_of kind) B received places i j bytes → ((j ≡ i) × (bytes ≡ [])) ⊎ ((j ≡ suc i) × LineOf (form_of kind) B received i bytes)
 alone kind B received all none = inl (refl, refl)
 alone kind B received all (then more none room less is) = inr (refl, is)
@@ -56,19 +56,6 @@ module _ (kind : Kind) (before : State) (buffer : List ℕ) (room : line_room �
   kept_whole part q = ap (λ (l : List ℕ). l ++ drop line_room buffer) q ∙ take-append-drop line_room buffer
 
   module _ (part : List ℕ) (long : length part ≡ length (take line_room buffer)) where
-    writes_whole : (bytes : List ℕ) (size : ℕ) → Writes bytes (take line_room buffer) part size → Writes bytes buffer (part ++ drop line_room buffer) size
-    writes_whole bytes size w =
-        let within : length bytes ≤ length (take line_room buffer) = omega (arith, w.number, writes_within w long) in
-        record {
-          number = w.number;
-          fills =
-              ap (λ (l : List ℕ). l ++ drop line_room buffer) w.fills
-              ∙ append_assoc bytes (drop (length bytes) (take line_room buffer)) (drop line_room buffer)
-              ∙ ap (λ (l : List ℕ). bytes ++ l)
-              (sym (drop-append-le (length bytes) (take line_room buffer) (drop line_room buffer) within)
-              ∙ ap (drop (length bytes)) (take-append-drop line_room buffer));
-        }
-
     next_line : (after : State) (size : ℕ) → PageOf (form_of kind) before after (take line_room buffer) part size
         → NextLine (form_of kind) before after buffer (part ++ drop line_room buffer) size
     next_line after size p = ⊎_elim none_came one_came (alone kind before.book before.received front_long p.are_lines)
@@ -86,7 +73,7 @@ module _ (kind : Kind) (before : State) (buffer : List ℕ) (room : line_room �
               more = p.more;
               bytes = p.bytes;
               is_line = x.1;
-              writes = writes_whole p.bytes size p.writes;
+              writes = writes_whole buffer room part long p.bytes size p.writes;
               further = p.further ∙ ap (written before) x.0;
             }
 

@@ -3,6 +3,7 @@
 -- A line of one or two numbers of 64 bits has at most 50 bytes, an edge 12, and the group list at most 64 numbers of three digits. (That an
 -- implied= line fits is shown in crate circuits.) A line ends with its LF, so it has a byte; what each line of a section has, every line has (crate reports).
 -- Assumes nothing.
+use Rattle.std.specs.Prelude.{Result, Ok, Err}
 use mathlib.Core.Path.{◌≡◌, ap}
 use mathlib.Core.Logic.{inl, inr}
 use mathlib.Core.List.{List, [], ◌∷◌, ◌++◌}
@@ -21,7 +22,7 @@ use Rattle.text.specs.Lines.{LF, comma, numeral, listed, line, key_a, key_b, key
 use Rattle.text.specs.Sheets.{edge_text}
 use Rattle.text.proofs.Sizes.{line_length, edge_length}
 use Rattle.lines.proofs.Sizes.{Numbers, numeral_at_most_20, line_not_empty, number_line_at_most, line_at_most}
-use Rattle.reports.specs.declared.Received.{Received}
+use Rattle.text.specs.declared.Refusal.{Refusal}
 use Rattle.reports.specs.Keys.{key_verdict, key_groups, word_of}
 use Rattle.reports.specs.Sections.{Exactly, Nth}
 use Rattle.reports.specs.Reports.{ImpliedLine, EdgeLine, GroupsLine, figures, report_lines, ReportLine, book_line, book_lines, ForestLine, certificate_lines, CertificateLine, refused_line}
@@ -117,9 +118,9 @@ certificate_not_empty : (B : Book) (among : ℕ → Set) (i : ℕ) → Has NotEm
 certificate_not_empty B among =
     line_has NotEmpty (certificate_lines B among) (text_not_empty B, ((λ i. forest_not_empty B among (suc i)), tt))
 
-pub no_line_empty : (kind : Kind) (B : Book) (received : Received) (i : ℕ) (bytes : List ℕ) → LineOf (form_of kind) B received i bytes → 1 ≤ length bytes
+pub no_line_empty : (kind : Kind) (B : Book) (received : Result Unit Refusal) (i : ℕ) (bytes : List ℕ) → LineOf (form_of kind) B received i bytes → 1 ≤ length bytes
 unfolding refused_line
-no_line_empty Kind.Report B Received.Fine i bytes l = report_not_empty (design_of B) (kept_of B) (λ e. kept_of B) i bytes l
-no_line_empty Kind.Report B (Received.Refused reason number) i bytes l = is_line_not_empty _ _ _ l
-no_line_empty Kind.Certificate B Received.Fine i bytes l = certificate_not_empty B (λ e. kept_of B) i bytes l
-no_line_empty Kind.Certificate B (Received.Refused reason number) i bytes l = is_line_not_empty _ _ _ l
+no_line_empty Kind.Report B (Ok _) i bytes l = report_not_empty (design_of B) (kept_of B) (λ e. kept_of B) i bytes l
+no_line_empty Kind.Report B (Err _) i bytes l = is_line_not_empty _ _ _ l
+no_line_empty Kind.Certificate B (Ok _) i bytes l = certificate_not_empty B (λ e. kept_of B) i bytes l
+no_line_empty Kind.Certificate B (Err _) i bytes l = is_line_not_empty _ _ _ l

@@ -1,22 +1,13 @@
--- What the writers of lines are lent, and what a run of lines leaves behind.
+-- What the writers of lines know of the lines before, and what a run of lines leaves behind.
 --
--- In order: a sound book with its tables; the kept edges so far; lines written one behind the other.
-use Rattle.std.specs.Prelude.{◌≡◌, ◌⊎◌, List, ℕ, ◌+◌, ◌≤◌, ◌<◌, length}
+-- In order: the kept edges so far; lines written one behind the other.
+use Rattle.std.specs.Prelude.{◌≡◌, ◌⊎◌, Ok, List, ℕ, ◌+◌, ◌≤◌, ◌<◌, length}
 use Rattle.rule.specs.declared.Book.{Book}
 use Rattle.rule.specs.Sets.{count}
-use Rattle.rule.specs.Books.{design_of, forest_of, kept_of, Sound}
-use Rattle.tables.specs.Tables.{Tabled}
+use Rattle.rule.specs.Books.{kept_of}
 use Rattle.text.specs.Puts.{Writes}
-use Rattle.reports.specs.declared.Received.{Received}
 use Rattle.reports.specs.Steps.{Form, Lines, line_room}
 use Rattle.pager.specs.declared.PageEnd.{PageEnd}
-
--- the book is sound, and the tables hold its forests
-pub record Known (B : Book) (root way edge : List ℕ) : Type 0 where
-  pub sound : Sound B
-  pub who : List ℕ
-  pub size : List ℕ
-  pub tabled : Tabled (design_of B) (forest_of B) root way who edge size
 
 -- kept is how many of the first i edges are kept, where there are as many
 pub record Tally (B : Book) (i kept : ℕ) : Type 0 where
@@ -26,7 +17,7 @@ pub record Tally (B : Book) (i kept : ℕ) : Type 0 where
 -- the lines from i on, up to the one before j, stand one behind the other in the first places
 pub record LinesRun (form : Form) (B : Book) (i : ℕ) (before after : List ℕ) (j end : ℕ) : Type 0 where
   pub bytes : List ℕ
-  pub are_lines : Lines form B Received.Fine (length before) i j bytes
+  pub are_lines : Lines form B (Ok tt) (length before) i j bytes
   pub writes : Writes bytes before after end
   pub as_long : length after ≡ length before
   pub within : end ≤ length before

@@ -8,9 +8,10 @@
 #![tactic(auto)]
 
 mod certificate;
+mod source;
 
-ghost use Rattle.std.specs.Prelude.{◌≡◌, [], ◌∷◌, ◌++◌, suc, ◌≤◌, ◌<◌, length};
-ghost use Rattle.rule.specs.Books.{design_of, forest_of, kept_of, Sound};
+ghost use Rattle.std.specs.Prelude.{◌≡◌, MatchOption, [], ◌∷◌, ◌++◌, suc, ◌≤◌, ◌<◌, length};
+ghost use Rattle.rule.specs.Books.{design_of, forest_of, kept_of};
 ghost use Rattle.rule.specs.Figures.{freedom, dropped, verdict};
 ghost use Rattle.text.specs.Lines.{LF, line};
 ghost use Rattle.text.specs.Puts.{Writes};
@@ -18,15 +19,18 @@ ghost use Rattle.reports.specs.Keys.{key_kept, key_free, key_dropped, key_verdic
 ghost use Rattle.reports.specs.Sections.{Nth};
 ghost use Rattle.reports.specs.Reports.{freedom_after, EdgeLine, GroupsLine, figures};
 ghost use Rattle.reports.specs.Steps.{Puts, Next, Page, report, certificate, line_room, written};
-ghost use Rattle.pager.specs.Kinds.{form_of, line_from};
-ghost use Rattle.pager.specs.Lent.{Known, Tally, FullRun};
+ghost use Rattle.pager.specs.Kinds.{form_of};
+ghost use Rattle.pager.specs.Lent.{Tally, FullRun};
 
-use book::Checked;
-use reports::{Line, Received, State, Stepped};
+use crate::source::{Place, Source};
+use reports::{Line, State, Stepped};
 use rule::{Book, Reason};
+use tables::Tables;
+use text::Refusal;
 
-// Which of the two a page is of.
-#[derive(Clone, Copy)]
+// Which of the two a page is of. An enum with a match for each question, and no trait with two types: callers name it in `page` and `next`,
+// which may not change.
+#[derive(Clone, Copy, Debug, PartialEq, Eq)]
 pub enum Kind {
     Report,
     Certificate,
@@ -35,174 +39,155 @@ pub enum Kind {
 // ---- the kept edges
 
 // How many of the first i edges are kept. Past the edges nobody asks.
-fn kept_before(book: Book, i: u16) -> u16
-    requires { Sound book }
-    ensures { Tally book i result }
+fn kept_before(source: Source<'_>, i: u16) -> u16
+    ensures { Tally source.entry.book.now i result }
 {
-    let count = book.count;
+    let count = source.book.count;
     if count < i {
         return 0;
     }
-    book::kept(i, &book.forests)
+    book::kept(i, &source.book.forests)
 }
 
-// The same with one edge more.
-fn kept_after(book: Book, i: u16, kept: u16) -> u16
-    requires { Sound book × (Tally book i kept × (i < 65535)) }
-    ensures { Tally book (suc i) result }
+// The same with the edge of this place more.
+fn kept_after(place: Place<'_>) -> u16
+    ensures { Tally place.entry.source.book.now (suc place.entry.line) result }
 {
-    let count = book.count;
+    let count = place.source.book.count;
+    let i = place.line;
     if count <= i {
-        return kept;
+        return place.kept;
     }
-    let at = i as usize;
-    if book.forests[at] == 0 {
-        return kept;
+    let forest = place.source.forest_at(i);
+    if forest == 0 {
+        return place.kept;
     }
-    kept + 1
+    place.kept + 1
 }
 
 // ---- the report
 
 // A kept edge: the freedom after it.
-fn kept_line(book: Book, i: u16, kept: u16, buffer: &mut [u8]) -> usize
-    requires sound { Sound book × ((i < book.count) × (1 ≤ forest_of book (suc i))) }
-    requires tally { Tally book i kept × (line_room ≤ length buffer.old) }
-    ensures { Writes (line key_kept (freedom_after (design_of book) (kept_of book) (suc i) ∷ [])) buffer.old buffer.new result }
+fn kept_line(place: Place<'_>, buffer: &mut [u8; 2048]) -> usize
+    requires edge { place.line < place.source.book.now.count }
+    requires has_forest { 1 ≤ forest_of place.source.book.now (suc place.line) }
+    ensures { Writes (line key_kept (freedom_after (design_of place.entry.source.book.now) (kept_of place.entry.source.book.now) (suc place.entry.line) ∷ [])) buffer.old buffer.new result }
 {
-    let a = book.a as usize;
-    let b = book.b as usize;
-    let n = book.n as usize;
+    let a = usize::from(place.source.book.a);
+    let b = usize::from(place.source.book.b);
+    let n = usize::from(place.source.book.n);
     let full = (a + b) * (n - 1);
-    text::put::number_line(buffer, b"kept=", full - (kept as usize + 1))
+    let kept = usize::from(place.kept);
+    text::put::number_line(buffer, b"kept=", full - (kept + 1))
 }
 
 // The edge after i others, kept or implied.
-fn report_edge(
-    book: Book,
-    i: u16,
-    kept: u16,
-    root: &[u8; 384],
-    way: &[u64; 384],
-    edge: &[u16; 384],
-    buffer: &mut [u8],
-) -> usize
-    requires known { Known book root.now way.now edge.now × (i < book.count) }
-    requires tally { Tally book i kept × (line_room ≤ length buffer.old) }
-    ensures { Puts (EdgeLine (design_of book) (kept_of book) (λ e. kept_of book) (suc i)) buffer.old buffer.new result }
+fn report_edge(place: Place<'_>, buffer: &mut [u8; 2048]) -> usize
+    requires { place.line < place.source.book.now.count }
+    ensures { Puts (EdgeLine (design_of place.entry.source.book.now) (kept_of place.entry.source.book.now) (λ e. kept_of place.entry.source.book.now) (suc place.entry.line)) buffer.old buffer.new result }
 {
-    let at = i as usize;
-    if book.forests[at] == 0 {
-        return circuits::implied_line(book, i + 1, root, way, edge, buffer);
+    let source = place.source;
+    let i = place.line;
+    let forest = source.forest_at(i);
+    if forest == 0 {
+        return circuits::implied_line(source.book, i + 1, source.tables, buffer);
     }
-    kept_line(book, i, kept, buffer)
+    kept_line(place, buffer)
 }
 
-fn free_line(book: Book, buffer: &mut [u8]) -> usize
-    requires { Sound book × (line_room ≤ length buffer.old) }
-    ensures { Writes (line key_free (freedom (design_of book) (kept_of book) ∷ [])) buffer.old buffer.new result }
+// (Two functions, this and the next: one over key and figure would owe a clause on the key's length, and both names would stay.)
+fn free_line(source: Source<'_>, buffer: &mut [u8; 2048]) -> usize
+    ensures { Writes (line key_free (freedom (design_of source.entry.book.now) (kept_of source.entry.book.now) ∷ [])) buffer.old buffer.new result }
 {
-    let free = book::free_of(book) as usize;
-    text::put::number_line(buffer, b"free=", free)
+    let free = book::free_of(source.book);
+    text::put::number_line(buffer, b"free=", usize::from(free))
 }
 
-fn dropped_line(book: Book, buffer: &mut [u8]) -> usize
-    requires { Sound book × (line_room ≤ length buffer.old) }
-    ensures { Writes (line key_dropped (dropped (design_of book) (kept_of book) ∷ [])) buffer.old buffer.new result }
+fn dropped_line(source: Source<'_>, buffer: &mut [u8; 2048]) -> usize
+    ensures { Writes (line key_dropped (dropped (design_of source.entry.book.now) (kept_of source.entry.book.now) ∷ [])) buffer.old buffer.new result }
 {
-    let implied = book::implied_of(book) as usize;
-    text::put::number_line(buffer, b"dropped=", implied)
+    let implied = book::implied_of(source.book);
+    text::put::number_line(buffer, b"dropped=", usize::from(implied))
 }
 
-fn judged_line(book: Book, buffer: &mut [u8]) -> usize
-    requires { Sound book × (line_room ≤ length buffer.old) }
-    ensures { Writes (key_verdict ++ (word_of (verdict (design_of book) (kept_of book)) ++ LF ∷ [])) buffer.old buffer.new result }
+fn judged_line(source: Source<'_>, buffer: &mut [u8; 2048]) -> usize
+    ensures { Writes (key_verdict ++ (word_of (verdict (design_of source.entry.book.now) (kept_of source.entry.book.now)) ++ LF ∷ [])) buffer.old buffer.new result }
 {
     lines::verdict_line(
         buffer,
-        book::judge(book::free_of(book), book::implied_of(book)),
+        book::judge(book::free_of(source.book), book::implied_of(source.book)),
     )
 }
 
-fn groups_line(book: Book, buffer: &mut [u8]) -> usize
-    requires { Sound book × (line_room ≤ length buffer.old) }
-    ensures { Puts (GroupsLine (design_of book) (kept_of book)) buffer.old buffer.new result }
+fn groups_line(source: Source<'_>, buffer: &mut [u8; 2048]) -> usize
+    ensures { Puts (GroupsLine (design_of source.entry.book.now) (kept_of source.entry.book.now)) buffer.old buffer.new result }
 {
     let mut list = [0u8; 64];
-    groups::list_groups(book, &mut list);
-    let n = book.n as usize;
+    groups::list_groups(source.book, &mut list);
+    let n = usize::from(source.book.n);
     let mut leaders = [0u16; 64];
-    lines::widen(&list, n, &mut leaders);
-    lines::list_line(buffer, b"groups=", &leaders, n)
+    lines::widen(&list[..n], &mut leaders);
+    lines::list_line(buffer, b"groups=", &leaders[..n])
 }
 
 // Line j of the figures of the whole book, counted from 0.
-fn figure_line(book: Book, j: u16, buffer: &mut [u8]) -> usize
-    requires { Sound book × ((j < length (figures (design_of book) (kept_of book))) × (line_room ≤ length buffer.old)) }
-    ensures { Puts (Nth (figures (design_of book) (kept_of book)) j) buffer.old buffer.new result }
+fn figure_line(source: Source<'_>, j: u16, buffer: &mut [u8; 2048]) -> usize
+    requires { j < length (figures (design_of source.book.now) (kept_of source.book.now)) }
+    ensures { Puts (Nth (figures (design_of source.entry.book.now) (kept_of source.entry.book.now)) j) buffer.old buffer.new result }
 {
     match j {
-        0 => free_line(book, buffer),
-        1 => dropped_line(book, buffer),
-        2 => judged_line(book, buffer),
-        _ => groups_line(book, buffer),
+        0 => free_line(source, buffer),
+        1 => dropped_line(source, buffer),
+        2 => judged_line(source, buffer),
+        _ => groups_line(source, buffer),
     }
 }
 
-// Line i of the report, counted from 0: the edges, then the figures of the whole book.
-fn report_line(
-    book: Book,
-    i: u16,
-    kept: u16,
-    root: &[u8; 384],
-    way: &[u64; 384],
-    edge: &[u16; 384],
-    buffer: &mut [u8],
-) -> usize
-    requires known { Known book root.now way.now edge.now × (i < report.number book) }
-    requires tally { Tally book i kept × (line_room ≤ length buffer.old) }
-    ensures { Puts (report.Says book i) buffer.old buffer.new result }
+// A line of the report: the edges, then the figures of the whole book.
+fn report_line(place: Place<'_>, buffer: &mut [u8; 2048]) -> usize
+    requires { place.line < report.number place.source.book.now }
+    ensures { Puts (report.Says place.entry.source.book.now place.entry.line) buffer.old buffer.new result }
 {
-    let count = book.count;
+    let count = place.source.book.count;
+    let i = place.line;
     if i < count {
-        return report_edge(book, i, kept, root, way, edge, buffer);
+        return report_edge(place, buffer);
     }
-    figure_line(book, i - count, buffer)
+    figure_line(place.source, i - count, buffer)
 }
 
 // ---- a page
 
 // How many lines there are.
-fn number_of_lines(kind: Kind, book: Book) -> u16
-    requires { Sound book }
-    ensures { result ≡ (form_of kind).number book }
+fn number_of_lines(kind: Kind, source: Source<'_>) -> u16
+    ensures { result ≡ (form_of kind).number source.entry.book.now }
 {
-    let count = book.count;
+    let count = source.book.count;
     match kind {
         Kind::Report => count + 4,
         Kind::Certificate => 4 + count + count,
     }
 }
 
-// Line i of either.
-fn line(
-    kind: Kind,
-    book: Book,
-    i: u16,
-    kept: u16,
-    root: &[u8; 384],
-    way: &[u64; 384],
-    edge: &[u16; 384],
-    buffer: &mut [u8],
-) -> usize
-    requires known { Known book root.now way.now edge.now × (i < (form_of kind).number book) }
-    requires tally { Tally book i kept × (line_room ≤ length buffer.old) }
-    ensures { Puts ((form_of kind).Says book i) buffer.old buffer.new result }
+// The line of either.
+fn line(kind: Kind, place: Place<'_>, buffer: &mut [u8; 2048]) -> usize
+    requires { place.line < (form_of kind).number place.source.book.now }
+    ensures { Puts ((form_of kind).Says place.entry.source.book.now place.entry.line) buffer.old buffer.new result }
 {
     match kind {
-        Kind::Report => report_line(book, i, kept, root, way, edge, buffer),
-        Kind::Certificate => certificate::certificate_line(book, i, root, way, edge, buffer),
+        Kind::Report => report_line(place, buffer),
+        Kind::Certificate => certificate::certificate_line(place.source, place.line, buffer),
     }
+}
+
+// The line in the first places of the rest of a buffer, where a line's room is left.
+fn next_line(kind: Kind, place: Place<'_>, rest: &mut [u8]) -> Option<usize>
+    requires { place.line < (form_of kind).number place.source.book.now }
+    ensures { MatchOption result ((length rest.old < line_room) × (rest.new ≡ rest.old)) (λ n.
+        (line_room ≤ length rest.old) × Puts ((form_of kind).Says place.entry.source.book.now place.entry.line) rest.old rest.new n) }
+{
+    let room = rest.first_chunk_mut::<2048>()?;
+    Some(line(kind, place, room))
 }
 
 // How far a page has come: the line that is next, and the end of what is written.
@@ -213,51 +198,35 @@ pub struct PageEnd {
 }
 
 // The lines from one on, as long as there are some and a line's room is left.
-fn fill(
-    kind: Kind,
-    book: Book,
-    first: u16,
-    root: &[u8; 384],
-    way: &[u64; 384],
-    edge: &[u16; 384],
-    buffer: &mut [u8],
-) -> PageEnd
-    requires { Known book root.now way.now edge.now }
-    ensures { FullRun (form_of kind) book first buffer.old buffer.new result }
+fn fill(kind: Kind, source: Source<'_>, first: u16, buffer: &mut [u8]) -> PageEnd
+    ensures { FullRun (form_of kind) source.entry.book.now first buffer.old buffer.new result }
 {
-    let number = number_of_lines(kind, book);
-    let mut kept = kept_before(book, first);
-    let mut i = first;
+    let number = number_of_lines(kind, source);
+    let mut kept = kept_before(source, first);
     let mut end: usize = 0;
-    while i < number {
-        if buffer.len() - end < 2048 {
-            return PageEnd { line: i, end: end };
-        }
-        let more = line(kind, book, i, kept, root, way, edge, &mut buffer[end..]);
-        end = end + more;
-        kept = kept_after(book, i, kept);
-        i = i + 1;
+    for i in first..number {
+        let place = Place {
+            source,
+            line: i,
+            kept,
+        };
+        let Some(more) = next_line(kind, place, &mut buffer[end..]) else {
+            return PageEnd { line: i, end };
+        };
+        end += more;
+        kept = kept_after(place);
     }
-    PageEnd { line: i, end: end }
+    PageEnd {
+        line: first.max(number),
+        end,
+    }
 }
 
 // The state with so many lines written.
 fn further(state: State, line: u16) -> State
     ensures { result ≡ written state line }
 {
-    let mut after = state;
-    after.line = line;
-    after
-}
-
-// A refusal, handed on.
-fn refusal(c: Checked) -> Line
-    ensures { result ≡ line_from c }
-{
-    match c {
-        Checked::Fine => Line::Over,
-        Checked::Refused(reason) => Line::Refused(reason),
-    }
+    State { line, ..state }
 }
 
 // Check 7 refuses.
@@ -266,39 +235,38 @@ fn short(state: State) -> Stepped
 {
     Stepped {
         answer: Line::Refused(Reason::Short),
-        state: state,
+        state,
     }
 }
 
 // The page of a book. Checks 8, then 7.
 fn book_page(kind: Kind, state: State, buffer: &mut [u8]) -> Stepped
-    requires { state.received ≡ Received.Fine }
+    requires { state.received ≡ Ok tt }
     ensures { Page (form_of kind) state result.state buffer.old buffer.new result.answer }
 {
-    let mut root = [0u8; 384];
-    let mut way = [0u64; 384];
-    let mut who = [0u64; 384];
-    let mut edge = [0u16; 384];
-    let mut size = [0u8; 6];
-    let book = state.book;
-    let c = book::sound(book, &mut root, &mut way, &mut who, &mut edge, &mut size);
-    let Checked::Fine = c else {
+    let book = &state.book;
+    let mut tables = Tables::new();
+    if let Err(reason) = book::sound(book, &mut tables) {
         return Stepped {
-            answer: refusal(c),
-            state: state,
+            answer: Line::Refused(reason),
+            state,
         };
-    };
+    }
     if buffer.len() < 2048 {
         return short(state);
     }
+    let source = Source {
+        book,
+        tables: &tables,
+    };
     let first = state.line;
-    if number_of_lines(kind, book) <= first {
+    if number_of_lines(kind, source) <= first {
         return Stepped {
             answer: Line::Over,
-            state: state,
+            state,
         };
     }
-    let filled = fill(kind, book, first, &root, &way, &edge, buffer);
+    let filled = fill(kind, source, first, buffer);
     Stepped {
         answer: Line::Written(filled.end),
         state: further(state, filled.line),
@@ -306,8 +274,8 @@ fn book_page(kind: Kind, state: State, buffer: &mut [u8]) -> Stepped
 }
 
 // The page of a refused text: one line. It has no book to look at, so that only 7 is checked.
-fn refused_page(state: State, reason: Reason, number: usize, buffer: &mut [u8]) -> Stepped
-    requires { state.received ≡ Received.Refused reason number }
+fn refused_page(state: State, refusal: Refusal, buffer: &mut [u8]) -> Stepped
+    requires { state.received ≡ Err refusal }
     ensures { (kind : Kind) → Page (form_of kind) state result.state buffer.old buffer.new result.answer }
 {
     if buffer.len() < 2048 {
@@ -317,10 +285,15 @@ fn refused_page(state: State, reason: Reason, number: usize, buffer: &mut [u8]) 
     if 0 < first {
         return Stepped {
             answer: Line::Over,
-            state: state,
+            state,
         };
     }
-    let end = lines::pair_line(buffer, b"refused=", reports::number_of(reason), number);
+    let end = lines::pair_line(
+        buffer,
+        b"refused=",
+        usize::from(refusal.reason),
+        refusal.line,
+    );
     Stepped {
         answer: Line::Written(end),
         state: further(state, 1),
@@ -331,10 +304,9 @@ fn refused_page(state: State, reason: Reason, number: usize, buffer: &mut [u8]) 
 pub fn page(kind: Kind, state: State, buffer: &mut [u8]) -> Stepped
     ensures { Page (form_of kind) state result.state buffer.old buffer.new result.answer }
 {
-    let received = state.received;
-    match received {
-        Received::Fine => book_page(kind, state, buffer),
-        Received::Refused(reason, number) => refused_page(state, reason, number, buffer),
+    match state.received {
+        Ok(()) => book_page(kind, state, buffer),
+        Err(refusal) => refused_page(state, refusal, buffer),
     }
 }
 

@@ -187,8 +187,10 @@ module _ (d : Design) (forest : ℕ → ℕ) (f e : ℕ) (hf : In 6 f) (he : In 
 
 -- ---- what `add` promises
 
-module _ (f u v e : ℕ) (root way who edge size root' way' who' : List ℕ) (bodies path one : ℕ) (r : Addable f u v root way who edge size)
-    (un : United f u v root who root' who' bodies) (is_path : path ≡ bit_xor (word way f u) (word way f v)) (is_one : one ≡ 2 ^ filled size f)
+-- t is the slot that the edge takes
+module _ (f u v e t : ℕ) (root way who edge size root' way' who' : List ℕ) (bodies path one : ℕ) (r : Addable f u v root size)
+    (sized : Sized root way who edge size) (is_t : t ≡ filled size f)
+    (un : United f u v root who root' who' bodies) (is_path : path ≡ bit_xor (word way f u) (word way f v)) (is_one : one ≡ 2 ^ t)
     (a : Applied (λ w. bit_xor w (bit_xor path one)) (start f) (bit bodies) way way') where
   -- what was done, as it is said of the ends of an edge
   record Given (d : Design) (forest : ℕ → ℕ) (x y : ℕ) : Type 0 where
@@ -198,17 +200,20 @@ module _ (f u v e : ℕ) (root way who edge size root' way' who' : List ℕ) (bo
     united : United f x y root who root' who' bodies
     applied : Applied (λ w. bit_xor w (across (word way f x) (word way f y) (filled size f))) (start f) (bit bodies) way way'
 
-  pub added : Added f u v e root way who edge size root' way' who' (set edge (start f + filled size f) e) (set size (f - 1) (filled size f + 1))
+  pub added : Added f u v e root way who edge size root' way' who' (set edge (start f + t) e) (set size (f - 1) (filled size f + 1))
   unfolding spans
   added =
-      record {
+      subst
+      (λ (t : ℕ). Added f u v e root way who edge size root' way' who' (set edge (start f + t) e) (set size (f - 1) (filled size f + 1)))
+      (sym is_t)
+      (record {
         sized =
             record {
               root_long = un.root_long;
-              way_long = a.as_long ∙ r.sized.way_long;
+              way_long = a.as_long ∙ sized.way_long;
               who_long = un.who_long;
-              edge_long = length-set edge _ e ∙ r.sized.edge_long;
-              size_long = length-set size _ _ ∙ r.sized.size_long;
+              edge_long = length-set edge _ e ∙ sized.edge_long;
+              size_long = length-set size _ _ ∙ sized.size_long;
             };
         tabled =
             λ d forest he unplaced is_u is_v apart old.
@@ -219,8 +224,8 @@ module _ (f u v e : ℕ) (root way who edge size root' way' who' : List ℕ) (bo
               y_body = r.other;
               apart = apart;
               united = un;
-              applied = subst₂ (λ (p o : ℕ). Applied (λ w. bit_xor w (bit_xor p o)) (start f) (bit bodies) way way') is_path is_one a;
+              applied = subst₂ (λ (p o : ℕ). Applied (λ w. bit_xor w (bit_xor p o)) (start f) (bit bodies) way way') is_path (is_one ∙ ap (λ (z : ℕ). 2 ^ z) is_t) a;
             }) in
-            tabled_with d forest f e r.forest he unplaced root way who edge size old r.sized r.room g.apart g.x_body g.y_body bodies way'
+            tabled_with d forest f e r.forest he unplaced root way who edge size old sized r.room g.apart g.x_body g.y_body bodies way'
             (g.united.tree d (in_forest forest f) (old.labels f r.forest)) g.applied root' who' g.united;
-      }
+      })

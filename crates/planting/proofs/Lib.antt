@@ -8,3 +8,4 @@ pub mod Places
 pub mod Added
 pub mod Swapped
 pub mod Few
+pub mod Sizes

@@ -212,7 +212,7 @@ module _ (d : Design) (forest : ℕ → ℕ) (f x y j : ℕ) (hf : In 6 f) (hx :
 
 -- ---- what `swap` promises
 
-module _ (f u v x y j : ℕ) (way edge way' : List ℕ) (path one : ℕ) (r : Swappable f u v way edge) (first : FirstSlot f y edge j)
+module _ (f u v x y j : ℕ) (way edge way' : List ℕ) (path one : ℕ) (r : Swappable f u v) (way_long : Long way) (edge_long : Long edge) (first : FirstSlot f y edge j)
     (is_path : path ≡ bit_xor (word way f u) (word way f v)) (is_one : one ≡ 2 ^ j)
     (a : Applied (turned_by j (bit_xor path one)) (start f) (λ _. true) way way') where
   -- what was done, as it is said of the ends of an edge
@@ -224,8 +224,8 @@ module _ (f u v x y j : ℕ) (way edge way' : List ℕ) (path one : ℕ) (r : Sw
   pub swapped : Swapped f u v x y way edge way' (set edge (start f + j) x)
   swapped =
       record {
-        way_long = a.as_long ∙ r.way_long;
-        edge_long = length-set edge _ x ∙ r.edge_long;
+        way_long = a.as_long ∙ way_long;
+        edge_long = length-set edge _ x ∙ edge_long;
         tabled =
             λ d forest root who size hx unplaced is_u is_v is_f arc free old.
             let g : Given (d.one x) (d.other x) =
@@ -237,6 +237,6 @@ module _ (f u v x y j : ℕ) (way edge way' : List ℕ) (path one : ℕ) (r : Sw
             }) in
             let k =
             the_slot d forest f y j edge size (old.slots f r.forest) (path_edge d (in_forest forest (forest y)) x y arc.is_on_path) is_f first in
-            tabled_exchanged d forest f x y j r.forest hx unplaced is_f arc free root way who edge size old r.edge_long k.0 k.1 g.p_body
+            tabled_exchanged d forest f x y j r.forest hx unplaced is_f arc free root way who edge size old edge_long k.0 k.1 g.p_body
             g.q_body way' g.applied;
       }

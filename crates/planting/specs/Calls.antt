@@ -22,14 +22,13 @@ pub record Sized (root way who edge size : List ℕ) : Type 0 where
 -- ---- an edge added
 
 -- what `add` needs so that it stays inside the tables
-pub record Addable (f u v : ℕ) (root way who edge size : List ℕ) : Type 0 where
+pub record Addable (f u v : ℕ) (root size : List ℕ) : Type 0 where
   pub forest : In 6 f
   pub one : In 64 u
   pub other : In 64 v
   pub one_label : label root f u < 64
   pub other_label : label root f v < 64
   pub room : filled size f ≤ 62
-  pub sized : Sized root way who edge size
 
 -- edge e, between u and v, which forest f did not join, stands in forest f
 pub record Added (f u v e : ℕ) (root way who edge size root' way' who' edge' size' : List ℕ) : Type 0 where
@@ -40,12 +39,10 @@ pub record Added (f u v e : ℕ) (root way who edge size root' way' who' edge' s
 -- ---- an edge swapped for another
 
 -- what `swap` needs so that it stays inside the tables
-pub record Swappable (f u v : ℕ) (way edge : List ℕ) : Type 0 where
+pub record Swappable (f u v : ℕ) : Type 0 where
   pub forest : In 6 f
   pub one : In 64 u
   pub other : In 64 v
-  pub way_long : Long way
-  pub edge_long : Long edge
 
 -- edge x, between u and v, has taken the place of y, which stood in forest f on the path between u and v
 pub record Swapped (f u v x y : ℕ) (way edge way' edge' : List ℕ) : Type 0 where

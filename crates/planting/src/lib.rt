@@ -12,67 +12,53 @@ ghost use Rattle.std.specs.Int.Bits.{bit_xor};
 ghost use Rattle.rule.specs.Sets.{In};
 ghost use Rattle.words.specs.Bits.{bit};
 ghost use Rattle.tables.specs.Tables.{start, filled};
-ghost use Rattle.labels.specs.Rows.{Long, Applied};
-ghost use Rattle.planting.specs.Calls.{Addable, Added, Swappable, Swapped, turned_by, FirstSlot};
+ghost use Rattle.labels.specs.Rows.{Applied};
+ghost use Rattle.planting.specs.Calls.{Swappable, turned_by, FirstSlot};
+ghost use Rattle.planting.specs.Planted.{CanAdd, Adds, Swaps};
 
-// The words of some bodies change by c in forest f.
+use tables::Tables;
+
+// The words of some bodies change by c in forest f. (Beside `relabel` of crate labels: the walk over the bits is one iterator, and what is left is one assignment each.)
 fn change(f: usize, bodies: u64, c: u64, way: &mut [u64; 384])
-    requires { In 6 f × Long way.old }
+    requires { In 6 f }
     ensures { Applied (λ w. bit_xor w c) (start f) (bit bodies) way.old way.new }
 {
     let base = (f - 1) * 64;
-    let mut left = bodies;
-    while left != 0 {
-        let t = words::lowest(left);
-        let i = base + t;
-        way[i] = way[i] ^ c;
-        left = words::without(left, t);
+    for t in words::set_bits(bodies) {
+        way[base + t] ^= c;
     }
 }
 
 // Edge e, between u and v, which stand in two trees of forest f, is added to it.
-pub fn add(
-    f: usize,
-    u: usize,
-    v: usize,
-    e: u16,
-    root: &mut [u8; 384],
-    way: &mut [u64; 384],
-    who: &mut [u64; 384],
-    edge: &mut [u16; 384],
-    size: &mut [u8; 6],
-)
-    requires { Addable f u v root.old way.old who.old edge.old size.old }
-    ensures { Added f u v e root.old way.old who.old edge.old size.old root.new way.new who.new edge.new size.new }
+pub fn add(f: usize, u: usize, v: usize, e: u16, tables: &mut Tables)
+    requires { CanAdd f u v tables.old }
+    ensures { Adds f u v e tables.old tables.new }
 {
     let g = f - 1;
-    let j = size[g];
-    let t = j as usize;
-    let c = tables::path(way, f, u, v) ^ words::one(t);
-    let bodies = labels::unite(f, u, v, root, who);
-    change(f, bodies, c, way);
-    let i = g * 64 + t;
-    edge[i] = e;
-    size[g] = j + 1;
+    let j = tables.size[g];
+    let t = usize::from(j);
+    let c = tables.path(f, u, v) ^ words::one(t);
+    let bodies = labels::unite(f, u, v, &mut tables.labels);
+    change(f, bodies, c, &mut tables.way);
+    tables.edge[g * 64 + t] = e;
+    tables.size[g] = j + 1;
 }
 
-// The slot of edge y in forest f.
+// The slot of edge y in forest f. (63 and no `None` where there is none: `FirstSlot` of specs/Calls.antt has it so, and `swap`, which is only called for an edge
+// that stands there, would owe a proof that `None` never comes.)
 fn slot_of(f: usize, y: u16, edge: &[u16; 384]) -> usize
     requires { In 6 f }
     ensures { FirstSlot f y edge.now result }
 {
     let base = (f - 1) * 64;
-    let mut j: usize = 0;
-    while j < 63 {
-        if edge[base + j] == y {
-            return j;
-        }
-        j = j + 1;
-    }
-    j
+    edge[base..base + 63]
+        .iter()
+        .position(|e| *e == y)
+        .unwrap_or(63)
 }
 
 // The word changed by c where it has bit j.
+#[tactic(auto, unfolding(crate::specs::Calls::turned_by))]
 fn turned(word: u64, j: usize, c: u64) -> u64
     requires { j < 64 }
     ensures { result ≡ turned_by j c word }
@@ -82,34 +68,24 @@ fn turned(word: u64, j: usize, c: u64) -> u64
 
 // The word of each body changes by c in forest f where it has bit j.
 fn turn(f: usize, j: usize, c: u64, way: &mut [u64; 384])
-    requires { In 6 f × ((j < 64) × Long way.old) }
+    requires { In 6 f × (j < 64) }
     ensures { Applied (turned_by j c) (start f) (λ _. true) way.old way.new }
 {
     let base = (f - 1) * 64;
-    let mut t: usize = 0;
-    while t < 64 {
-        let i = base + t;
-        way[i] = turned(way[i], j, c);
-        t = t + 1;
+    for word in &mut way[base..base + 64] {
+        *word = turned(*word, j, c);
     }
 }
 
 // Edge x, between u and v, takes the place of edge y of forest f, which is on the path between u and v.
-pub fn swap(
-    f: usize,
-    u: usize,
-    v: usize,
-    x: u16,
-    y: u16,
-    way: &mut [u64; 384],
-    edge: &mut [u16; 384],
-)
-    requires { Swappable f u v way.old edge.old }
-    ensures { Swapped f u v x y way.old edge.old way.new edge.new }
+pub fn swap(f: usize, u: usize, v: usize, x: u16, y: u16, tables: &mut Tables)
+    requires { Swappable f u v }
+    ensures swaps { Swaps f u v x y tables.old tables.new }
+    ensures labels { tables.new.labels ≡ tables.old.labels }
+    ensures size { tables.new.size ≡ tables.old.size }
 {
-    let j = slot_of(f, y, edge);
-    let c = tables::path(way, f, u, v) ^ words::one(j);
-    turn(f, j, c, way);
-    let i = (f - 1) * 64 + j;
-    edge[i] = x;
+    let j = slot_of(f, y, &tables.edge);
+    let c = tables.path(f, u, v) ^ words::one(j);
+    turn(f, j, c, &mut tables.way);
+    tables.edge[(f - 1) * 64 + j] = x;
 }

@@ -1,7 +1,10 @@
 -- What may be handed to standard output, and what has been when a program ends.
 --
 -- In order: a text that was read; the page that is next; a turn; all turns; the input.
-use Rattle.std.specs.Prelude.{◌≡◌, Bool, false, true, List, ℕ, ◌≤◌, length, take}
+use Rattle.std.specs.Prelude.{◌≡◌, Bool, false, true, Result, Ok, Err, List, ℕ, ◌≤◌, length, take}
+use Rattle.std.specs.declared.io.Error.{Error}
+use Rattle.std.specs.declared.ops.ControlFlow.{ControlFlow}
+use Rattle.std.specs.declared.ops.ControlFlow.TheVariants.{Continue, Break}
 use Rattle.io.specs.Counts.{IsPrefixLen}
 use Rattle.reports.specs.declared.State.{State}
 use Rattle.reports.specs.Reads.{Receives}
@@ -9,7 +12,6 @@ use Rattle.reports.specs.Steps.{lines_of, written, line_room, Readable, PageOf}
 use Rattle.pager.specs.declared.Kind.{Kind}
 use Rattle.pager.specs.Kinds.{form_of}
 use Rattle.printing.specs.declared.output.Sent.{Sent}
-use Rattle.printing.specs.declared.Input.{Input}
 
 -- how many lines there are, handed over or not
 abbrev pub all_lines : Sent → ℕ
@@ -77,6 +79,14 @@ abbrev pub TurnSent : Sent → Sent → (last : Bool) → Type 0
 TurnSent s r true = SentLast s r
 TurnSent s r false = SentFurther s r
 
+-- a page was handed over: what was sent by then goes on, or breaks off where its write failed
+abbrev pub after_write : Sent → Bool → ControlFlow Sent Sent
+after_write r true = Break r
+after_write r false = Continue r
+
+abbrev pub turn_after : Sent → ControlFlow Sent Sent
+turn_after r = after_write r r.failed
+
 -- ---- all turns
 
 -- the first lines were handed over, as many as the state says; all of them, unless a write failed
@@ -96,18 +106,18 @@ pub record TextSent (kind : Kind) (text : List ℕ) (r : Sent) : Type 0 where
 -- ---- the input
 
 -- so many bytes of the buffer are the input's
-abbrev pub Got : Input → List ℕ → Type 0
-Got (Input.Bytes n) buffer = IsPrefixLen n buffer
-Got Input.Failed buffer = Unit
+abbrev pub Got : Result ℕ Error → List ℕ → Type 0
+Got (Ok n) buffer = IsPrefixLen n buffer
+Got (Err e) buffer = Unit
 
 -- of what was read the lines were handed over; nothing, where a read failed
-abbrev pub InputSent : Kind → Input → List ℕ → Sent → Type 0
-InputSent kind (Input.Bytes n) buffer r = TextSent kind (take n buffer) r
-InputSent kind Input.Failed buffer r = NothingSent kind r
+abbrev pub InputSent : Kind → Result ℕ Error → List ℕ → Sent → Type 0
+InputSent kind (Ok n) buffer r = TextSent kind (take n buffer) r
+InputSent kind (Err e) buffer r = NothingSent kind r
 
 -- of what was read, whatever it was, in a buffer of 8,192 places
 pub record Printed (kind : Kind) (r : Sent) : Type 0 where
-  pub got : Input
+  pub got : Result ℕ Error
   pub buffer : List ℕ
   pub size : length buffer ≡ 8192
   pub within : Got got buffer

@@ -7,68 +7,46 @@
 
 mod output;
 
-ghost use Rattle.std.specs.Prelude.{◌≡◌, true, take};
+ghost use Rattle.std.specs.Prelude.{◌≡◌, take};
+ghost use Rattle.std.specs.ControlFlow.{MatchControlFlow};
 ghost use Rattle.io.specs.Counts.{IsPrefixLen};
-ghost use Rattle.printing.specs.Sending.{Sendable, Sends, BeforeTurn, TurnSent, LinesSent, TextSent, Got, InputSent, Printed};
+ghost use Rattle.printing.specs.Sending.{Sendable, Sends, BeforeTurn, SentFurther, SentLast, turn_after, LinesSent, TextSent, Got, InputSent, Printed};
 
 pub use output::Sent;
 use pager::Kind;
 use reports::{Line, State};
 use std::io::Read;
+use std::ops::ControlFlow;
 
 // ---- the input
 
-// What was read: so many bytes, up to the end of the input or as many as there are places; or a read failed.
-#[derive(Clone, Copy)]
-pub enum Input {
-    Bytes(usize),
-    Failed,
-}
-
-// Reads until the buffer is full or the input ends. A read that fails is told from the end of the input, which io::read_full does not do.
-fn read_input<R: Read>(reader: &mut R, input: &mut [u8]) -> Input
+// Reads until the buffer is full or the input ends, and answers how many bytes came. A read that fails is told from the end of the input, which
+// io::read_full does not do.
+fn read_input<R: Read>(reader: &mut R, input: &mut [u8]) -> std::io::Result<usize>
     ensures { Got result input.new }
 {
     let mut done: usize = 0;
+    // No plainer as a `for`: each turn goes on by as many bytes as came, so that no range and no slice gives the turns.
     while done < input.len() {
-        let got = reader.read(&mut input[done..]);
-        let Ok(more) = got else {
-            return Input::Failed;
-        };
+        let more = reader.read(&mut input[done..])?;
         if more == 0 {
-            return Input::Bytes(done);
+            return Ok(done);
         }
-        done = done + more;
+        done += more;
     }
-    Input::Bytes(done)
+    Ok(done)
 }
 
 // ---- the pages
 
-// What one turn leaves behind: what was handed over by then, and whether it was the last.
-#[derive(Clone, Copy)]
-struct Turn {
-    sent: Sent,
-    last: bool,
-}
-
-// All lines have come.
-fn at_end(sent: Sent) -> Turn
-    ensures { (result.sent ≡ sent) × (result.last ≡ true) }
-{
-    Turn {
-        sent: sent,
-        last: true,
-    }
-}
-
 // A page was handed over, and there may be more, unless the write failed.
-fn after_page(sent: Sent) -> Turn
-    ensures { (result.sent ≡ sent) × (result.last ≡ sent.failed) }
+fn after_page(sent: Sent) -> ControlFlow<Sent, Sent>
+    ensures { result ≡ turn_after sent }
 {
-    Turn {
-        sent: sent,
-        last: output::has_failed(sent),
+    if output::has_failed(sent) {
+        ControlFlow::Break(sent)
+    } else {
+        ControlFlow::Continue(sent)
     }
 }
 
@@ -80,20 +58,16 @@ fn send_front(sent: Sent, after: State, buffer: &[u8], size: usize) -> Sent
     output::send(sent, after, &buffer[..size])
 }
 
-// The next page is asked for and handed over.
-fn send_page(sent: Sent, buffer: &mut [u8]) -> Turn
+// The next page is asked for and handed over. What was handed over by then goes on, or breaks off where this turn was the last.
+fn send_page(sent: Sent, buffer: &mut [u8]) -> ControlFlow<Sent, Sent>
     requires { BeforeTurn sent buffer.old }
-    ensures { TurnSent sent result.sent result.last }
+    ensures { MatchControlFlow result (SentFurther sent) (SentLast sent) }
 {
     let page = output::next_page(sent, buffer);
-    let answer = page.answer;
-    match answer {
-        Line::Written(size) => {
-            let after = page.state;
-            after_page(send_front(sent, after, buffer, size))
-        }
-        Line::Over => at_end(sent),
-        Line::Refused(_) => at_end(sent),
+    match page.answer {
+        Line::Written(size) => after_page(send_front(sent, page.state, buffer, size)),
+        Line::Over => ControlFlow::Break(sent),
+        Line::Refused(_) => ControlFlow::Break(sent),
     }
 }
 
@@ -104,10 +78,9 @@ fn send_pages(first: Sent, buffer: &mut [u8]) -> Sent
 {
     let mut sent = first;
     loop {
-        let turn = send_page(sent, buffer);
-        sent = turn.sent;
-        if turn.last {
-            return sent;
+        match send_page(sent, buffer) {
+            ControlFlow::Continue(further) => sent = further,
+            ControlFlow::Break(last) => return last,
         }
     }
 }
@@ -123,13 +96,13 @@ pub fn send_text(kind: Kind, text: &[u8]) -> Sent
 // ---- the programs
 
 // The report or the certificate of what was read.
-fn send_input(kind: Kind, got: Input, input: &[u8]) -> Sent
+fn send_input(kind: Kind, got: std::io::Result<usize>, input: &[u8]) -> Sent
     requires { Got got input.now }
     ensures { InputSent kind got input.now result }
 {
     match got {
-        Input::Bytes(n) => send_text(kind, &input[..n]),
-        Input::Failed => output::unread(kind),
+        Ok(n) => send_text(kind, &input[..n]),
+        Err(_) => output::unread(kind),
     }
 }
 

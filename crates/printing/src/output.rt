@@ -9,7 +9,8 @@ ghost use Rattle.printing.specs.Sending.{AtFirstLine, NothingSent, Sendable, Sen
 use pager::Kind;
 use reports::{State, Stepped};
 
-// Of which report or certificate lines were handed over, the state after them, and whether a read or a write has failed.
+// Of which report or certificate lines were handed over, the state after them, and whether a read or a write has failed. (A flag beside the state:
+// `Sends`, `LinesSent` and `Printed` of specs/Sending.antt speak of both, and after a failure the state is still what had been handed over.)
 #[derive(Clone, Copy)]
 pub struct Sent {
     kind: Kind,
@@ -42,8 +43,8 @@ pub fn begin(kind: Kind, text: &[u8]) -> Sent
 {
     let state = reader::begin(text);
     Sent {
-        kind: kind,
-        state: state,
+        kind,
+        state,
         failed: false,
     }
 }
@@ -55,8 +56,8 @@ pub fn unread(kind: Kind) -> Sent
     complain(kind, b"the input could not be read\n");
     let state = reader::begin(b"");
     Sent {
-        kind: kind,
-        state: state,
+        kind,
+        state,
         failed: true,
     }
 }
@@ -78,7 +79,7 @@ pub fn send(sent: Sent, after: State, lines: &[u8]) -> Sent
     let kind = sent.kind;
     if io::write_all(1, lines) {
         return Sent {
-            kind: kind,
+            kind,
             state: after,
             failed: false,
         };
@@ -86,7 +87,7 @@ pub fn send(sent: Sent, after: State, lines: &[u8]) -> Sent
     complain(kind, b"the output could not be written whole\n");
     let before = sent.state;
     Sent {
-        kind: kind,
+        kind,
         state: before,
         failed: true,
     }

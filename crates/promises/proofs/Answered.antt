@@ -11,14 +11,15 @@ use mathlib.Core.Logic.{inl, inr, ⊎_elim, ◌↔◌, ◌≢◌}
 use mathlib.Core.List.{List, [], ◌∷◌}
 use Prim.Native.Nat.{ℕ, ◌≤◌}
 use lib.ListN.{length}
+use Rattle.std.specs.Prelude.{Result, Ok, Err}
 use Rattle.rule.specs.declared.Book.{Book}
 use Rattle.rule.specs.declared.Reason.{Reason}
-use Rattle.rule.specs.declared.Figure.{Figure}
 use Rattle.rule.specs.declared.Answer.{Answer}
 use Rattle.rule.specs.declared.Answer.TheVariants.{Kept, Implied, Refused}
 use Rattle.rule.specs.Sets.{In}
 use Rattle.rule.specs.Figures.{freedom}
-use Rattle.rule.specs.Books.{Edge, design_of, kept_of, ColourRange, Sound, EdgeRange}
+use Rattle.rule.specs.declared.Edge.{Edge}
+use Rattle.rule.specs.Books.{design_of, kept_of, ColourRange, Sound, EdgeRange}
 use Rattle.rule.specs.Reasons.{Check, plain, room, circuit_room, Pass, Fail, question_checks, book_checks}
 use Rattle.rule.specs.Calls.{Offer, Question, Freedom}
 use Rattle.rule.proofs.Passed.{passed_question}
@@ -99,6 +100,6 @@ edge_single n given = (nothing_single, (nothing_single, (nothing_single, tt)))
 
 -- ---- freedom
 
-pub freedom_tells : (B : Book) → Sound B → (x : Figure) → Freedom B x → x ≡ Figure.Number (freedom (design_of B) (kept_of B))
-freedom_tells B sound (Figure.Number f) p = ap Figure.Number p.1
-freedom_tells B sound (Figure.Refused r) p = absurd (pass_not_fail (book_checks B) r (sound, tt) p)
+pub freedom_tells : (B : Book) → Sound B → (x : Result ℕ Reason) → Freedom B x → x ≡ Ok (freedom (design_of B) (kept_of B))
+freedom_tells B sound (Ok f) p = ap Ok p.1
+freedom_tells B sound (Err r) p = absurd (pass_not_fail (book_checks B) r (sound, tt) p)

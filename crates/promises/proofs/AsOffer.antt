@@ -15,7 +15,8 @@ use Rattle.rule.specs.declared.Reason.{Reason}
 use Rattle.rule.specs.declared.Reason.TheVariants.{Full}
 use Rattle.rule.specs.declared.Answer.{Answer}
 use Rattle.rule.specs.declared.Answer.TheVariants.{Kept, Implied, Refused}
-use Rattle.rule.specs.Books.{Edge, forest_of, capacity}
+use Rattle.rule.specs.declared.Edge.{Edge}
+use Rattle.rule.specs.Books.{forest_of, capacity}
 use Rattle.rule.specs.Reasons.{number_of, place_of, Check, plain, Pass, Fail, question_checks, offer_checks}
 use Rattle.rule.specs.Calls.{Offer, Question}
 use Rattle.rule.proofs.Passed.{passed_offer}

@@ -15,11 +15,13 @@ use mathlib.Core.Path.{◌≡◌, sym, ap, ◌∙◌, subst}
 use mathlib.Core.List.{List}
 use Prim.Native.Nat.{ℕ, ◌≤◌}
 use lib.ListN.{length}
+use Rattle.std.specs.Prelude.{Result, Ok}
+use Rattle.rule.specs.declared.Reason.{Reason}
 use Rattle.rule.specs.declared.Book.{Book}
-use Rattle.rule.specs.declared.Figure.{Figure}
 use Rattle.rule.specs.declared.Answer.{Answer}
 use Rattle.rule.specs.declared.Answer.TheVariants.{Kept, Implied, Refused}
-use Rattle.rule.specs.Books.{Edge, design_of, Sound}
+use Rattle.rule.specs.declared.Edge.{Edge}
+use Rattle.rule.specs.Books.{design_of, Sound}
 use Rattle.rule.specs.Reasons.{circuit_room, Pass, offer_checks}
 use Rattle.rule.specs.Calls.{Offer, Question, Freedom}
 use Rattle.step.specs.Runs.{Taken, Run, BookImplies}
@@ -62,11 +64,11 @@ module _ {a b n : ℕ} {edges others : List Edge} {B C : Book} (came_b : Came a 
       (question_tells C given lent sound_c long_c used told q))
 
   -- the freedom is the same
-  pub calls_order_freedom : (x y : Figure) → Freedom B x → Freedom C y → x ≡ y
+  pub calls_order_freedom : (x y : Result ℕ Reason) → Freedom B x → Freedom C y → x ≡ y
   calls_order_freedom x y p q =
       let r = order_of in
       freedom_tells B sound_b x p
-      ∙ ap Figure.Number (undo_order_freedom B C (came_run came_b) (came_run came_c) r.to r.fro r.renumbered)
+      ∙ ap Ok (undo_order_freedom B C (came_run came_b) (came_run came_c) r.to r.fro r.renumbered)
       ∙ sym (freedom_tells C sound_c y q)
 
 -- ---- an offer

@@ -9,19 +9,20 @@ use mathlib.Core.Path.{◌≡◌, sym, ◌∙◌}
 use mathlib.Core.List.{List}
 use Prim.Native.Nat.{ℕ}
 use denote.Ref.{Bor}
+use Rattle.std.specs.Prelude.{Result}
+use Rattle.rule.specs.declared.Reason.{Reason}
+use Rattle.rule.specs.declared.Verdict.{Verdict}
+use Rattle.text.specs.declared.Head.{Head}
+use Rattle.text.specs.declared.Refusal.{Refusal}
 use Rattle.rule.specs.declared.Book.{Book}
 use Rattle.rule.specs.declared.Answer.{Answer}
-use Rattle.rule.specs.declared.Done.{Done}
-use Rattle.rule.specs.declared.Figure.{Figure}
-use Rattle.rule.specs.declared.Judged.{Judged}
-use Rattle.rule.specs.Books.{Edge, next}
+use Rattle.rule.specs.declared.Edge.{Edge}
+use Rattle.rule.specs.Books.{next}
 use Rattle.rule.specs.Calls.{Open, Offer, Question, Freedom, Dropped, Judge, Grouped}
 use Rattle.rule.proofs.Outcomes.{SameButForests, AnswersAgree}
 use Rattle.rule.proofs.Outcomes as Outcomes
-use Rattle.text.specs.declared.Judgement.{Judgement}
 use Rattle.text.specs.Judgements.{Judges, Hands}
 use Rattle.text.proofs.Answers as Answers
-use Rattle.reports.specs.declared.Received.{Received}
 use Rattle.reports.specs.declared.State.{State}
 use Rattle.reports.specs.Reads.{Receives, Written}
 use Rattle.reports.specs.Steps.{report, certificate, Next, Page}
@@ -33,7 +34,7 @@ use Rattle.readings.proofs.Theorems as Settled
 -- ---- a book
 
 -- `book::open`
-pub open_agrees : (a b n : ℕ) (book other : Book) (x y : Done) → Open a b n book x → Open a b n other y → (book ≡ other) × (x ≡ y)
+pub open_agrees : (a b n : ℕ) (book other : Book) (x y : Result Unit Reason) → Open a b n book x → Open a b n other y → (book ≡ other) × (x ≡ y)
 open_agrees = Outcomes.open_determined
 
 -- `step::offer`
@@ -48,25 +49,25 @@ pub question_agrees : (B : Book) (given : Edge) (list listed lines : List ℕ) (
 question_agrees B given list = Outcomes.question_determined B given list
 
 -- `book::freedom`
-pub freedom_agrees : (B : Book) (x y : Figure) → Freedom B x → Freedom B y → x ≡ y
+pub freedom_agrees : (B : Book) (x y : Result ℕ Reason) → Freedom B x → Freedom B y → x ≡ y
 freedom_agrees = Outcomes.freedom_determined
 
 -- `book::dropped`
-pub dropped_agrees : (B : Book) (x y : Figure) → Dropped B x → Dropped B y → x ≡ y
+pub dropped_agrees : (B : Book) (x y : Result ℕ Reason) → Dropped B x → Dropped B y → x ≡ y
 dropped_agrees = Outcomes.dropped_determined
 
 -- `book::verdict`
-pub verdict_agrees : (B : Book) (x y : Judged) → Judge B x → Judge B y → x ≡ y
+pub verdict_agrees : (B : Book) (x y : Result Verdict Reason) → Judge B x → Judge B y → x ≡ y
 verdict_agrees = Outcomes.judge_determined
 
 -- `groups::groups`
-pub groups_agrees : (B : Book) (list listed lines : List ℕ) (x y : Done) → Grouped B list listed x → Grouped B list lines y → (listed ≡ lines) × (x ≡ y)
+pub groups_agrees : (B : Book) (list listed lines : List ℕ) (x y : Result Unit Reason) → Grouped B list listed x → Grouped B list lines y → (listed ≡ lines) × (x ≡ y)
 groups_agrees = Outcomes.grouped_determined
 
 -- ---- text
 
 -- `text::judge`
-pub judge_agrees : (text : List ℕ) (x y : Judgement) → Judges text x → Judges text y → x ≡ y
+pub judge_agrees : (text : List ℕ) (x y : Result Head Refusal) → Judges text x → Judges text y → x ≡ y
 judge_agrees = Answers.judge_determined
 
 -- `text::fault`: the part is one place of the lent text
@@ -74,7 +75,7 @@ pub fault_agrees : (text p q : Bor (List ℕ)) → Hands text p → Hands text q
 fault_agrees = Answers.hands_determined
 
 -- `reader::read`
-pub read_agrees : (text : List ℕ) (B C : Book) (r s : Received) → Receives text B r → Receives text C s → (r ≡ s) × BooksAgree r B C
+pub read_agrees : (text : List ℕ) (B C : Book) (r s : Result Unit Refusal) → Receives text B r → Receives text C s → (r ≡ s) × BooksAgree r B C
 read_agrees = Settled.receives_determined
 
 -- `reader::begin`: the answer, the line and, as for `read`, the book
@@ -86,7 +87,7 @@ begin_agrees text s t p q =
     (read.0, p.1 ∙ sym q.1, read.1)
 
 -- `writer::write`
-pub write_agrees : (B : Book) (buffer one other : List ℕ) (x y : Figure) → Written B buffer one x → Written B buffer other y → (one ≡ other) × (x ≡ y)
+pub write_agrees : (B : Book) (buffer one other : List ℕ) (x y : Result ℕ Reason) → Written B buffer one x → Written B buffer other y → (one ≡ other) × (x ≡ y)
 write_agrees = Writing.write_determined
 
 -- ---- the steppers

@@ -21,7 +21,8 @@ use Rattle.rule.specs.declared.Answer.TheVariants.{Kept, Implied, Refused}
 use Rattle.rule.specs.Sets.{Is, ◌and◌, ◌<?◌, Set, In, below, count}
 use Rattle.rule.specs.Legal.{Design, Keeps, Circuit}
 use Rattle.rule.specs.Figures.{freedom}
-use Rattle.rule.specs.Books.{Edge, design_of, forest_of, kept_of, offered, next, plus}
+use Rattle.rule.specs.declared.Edge.{Edge}
+use Rattle.rule.specs.Books.{design_of, forest_of, kept_of, offered, next, plus}
 use Rattle.rule.specs.Calls.{new_book, Offer}
 use Rattle.rule.proofs.Tests.{same_test, by_le, in_split, below_in, below_lt, below_make}
 use Rattle.rule.proofs.Counting.{Agree, count_eq}

@@ -10,7 +10,8 @@ use Rattle.rule.specs.declared.Book.{Book}
 use Rattle.rule.specs.declared.Answer.TheVariants.{Kept}
 use Rattle.rule.specs.Sets.{Is, isnt, ◌=?◌, In, count}
 use Rattle.rule.specs.Forests.{moved}
-use Rattle.rule.specs.Books.{Edge, design_of, forest_of, kept_of}
+use Rattle.rule.specs.declared.Edge.{Edge}
+use Rattle.rule.specs.Books.{design_of, forest_of, kept_of}
 use Rattle.rule.specs.Calls.{KeepsIt, Offer, Question}
 use Rattle.rule.proofs.Tests.{by_le, isnt_not, eq_is}
 use Rattle.rule.proofs.Counting.{count_mono}

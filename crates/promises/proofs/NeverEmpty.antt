@@ -10,7 +10,8 @@ use lib.ListN.{length}
 use Rattle.rule.specs.declared.Book.{Book}
 use Rattle.rule.specs.declared.Answer.TheVariants.{Implied}
 use Rattle.rule.specs.Sets.{In, ◌without◌, numbers, at}
-use Rattle.rule.specs.Books.{Edge, design_of, kept_of, offered, plus, next, Sound, EdgeRange}
+use Rattle.rule.specs.declared.Edge.{Edge}
+use Rattle.rule.specs.Books.{design_of, kept_of, offered, plus, next, Sound, EdgeRange}
 use Rattle.rule.specs.Calls.{ImpliesIt, Offer, Question}
 use Rattle.rule.proofs.Passed.{passed_offer, passed_question}
 use Rattle.rule.proofs.Tests.{put_same}

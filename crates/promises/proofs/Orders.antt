@@ -10,12 +10,13 @@ use mathlib.Core.Path.{◌≡◌, refl, sym, ap, ◌∙◌, subst, subst₂}
 use mathlib.Core.List.Permᴰ
 use mathlib.Core.List.{List, [], ◌∷◌, ◌++◌}
 use Prim.Native.Nat.{ℕ}
+use Rattle.std.specs.Prelude.{Ok}
 use Rattle.rule.specs.declared.Book.{Book}
-use Rattle.rule.specs.declared.Done.{Done}
 use Rattle.rule.specs.declared.Answer.{Answer}
 use Rattle.rule.specs.declared.Answer.TheVariants.{Kept, Implied, Refused}
 use Rattle.rule.specs.Legal.{Design}
-use Rattle.rule.specs.Books.{Edge, design_of, plus}
+use Rattle.rule.specs.declared.Edge.{Edge}
+use Rattle.rule.specs.Books.{design_of, plus}
 use Rattle.rule.specs.Reasons.{Pass, offer_checks}
 use Rattle.rule.specs.Calls.{new_book, Open, Offer}
 use Rattle.rule.proofs.Determined.{pass_not_fail}
@@ -115,7 +116,7 @@ offers_came (then {before} {after} e list listed answer run pass o) c =
 
 -- a text that was read names a book that opens
 pub reads_open : {text : List ℕ} {B : Book} (r : Reads text B)
-    → Open r.sheet.a r.sheet.b r.sheet.n (new_book r.sheet.a r.sheet.b r.sheet.n) Done.Fine
+    → Open r.sheet.a r.sheet.b r.sheet.n (new_book r.sheet.a r.sheet.b r.sheet.n) (Ok tt)
 reads_open r = ((r.range.profile, (r.range.bodies, tt)), refl)
 
 pub reads_came : {text : List ℕ} {B : Book} (r : Reads text B) → Came r.sheet.a r.sheet.b r.sheet.n r.sheet.edges B

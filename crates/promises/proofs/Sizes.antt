@@ -11,7 +11,8 @@ use Rattle.rule.specs.declared.Answer.{Answer}
 use Rattle.rule.specs.declared.Answer.TheVariants.{Kept, Implied, Refused}
 use Rattle.rule.specs.Sets.{count}
 use Rattle.rule.specs.Figures.{freedom}
-use Rattle.rule.specs.Books.{Edge, design_of, kept_of, Sound}
+use Rattle.rule.specs.declared.Edge.{Edge}
+use Rattle.rule.specs.Books.{design_of, kept_of, Sound}
 use Rattle.rule.specs.Calls.{Offer}
 use Rattle.rule.proofs.Legality.{legal_size}
 use Rattle.theory.proofs.Legal.Sound.{sound_head, sound_legal}

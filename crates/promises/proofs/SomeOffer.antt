@@ -18,7 +18,8 @@ use Rattle.rule.specs.declared.Answer.TheVariants.{Kept, Implied, Refused}
 use Rattle.rule.specs.Sets.{isnt, ◌=?◌, In, put, at}
 use Rattle.rule.specs.Legal.{Design}
 use Rattle.rule.specs.Forests.{in_forest, limit, Permitted, Arranged, moved}
-use Rattle.rule.specs.Books.{Edge, design_of, forest_of, offered, plus, next, capacity}
+use Rattle.rule.specs.declared.Edge.{Edge}
+use Rattle.rule.specs.Books.{design_of, forest_of, offered, plus, next, capacity}
 use Rattle.rule.specs.Reasons.{question_checks}
 use Rattle.rule.specs.Calls.{Adds, OfferKept, OfferImplied, Offer, QuestionKept, QuestionImplied, Question}
 use Rattle.rule.proofs.Tests.{in_one, in_last, in_split, put_same, put_other}

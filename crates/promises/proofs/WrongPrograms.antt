@@ -18,7 +18,8 @@ use Rattle.rule.specs.declared.Answer.TheVariants.{Kept, Implied, Refused}
 use Rattle.rule.specs.Sets.{Is, ◌and◌, ◌or◌, isnt, ◌=?◌, ◌<?◌, ◌≤?◌, Set, put, ◌with◌, count, at}
 use Rattle.rule.specs.Legal.{Design, inside, Sparse, first_part, second_part, Legal, Keeps}
 use Rattle.rule.specs.Forests.{kept_in}
-use Rattle.rule.specs.Books.{the_edge, Edge, design_of, forest_of, kept_of, plus, offered, next, Sound}
+use Rattle.rule.specs.declared.Edge.{Edge}
+use Rattle.rule.specs.Books.{the_edge, design_of, forest_of, kept_of, plus, offered, next, Sound}
 use Rattle.rule.specs.Reasons.{Pass, offer_checks}
 use Rattle.rule.specs.Calls.{new_book, Offer}
 use Rattle.rule.proofs.Tests.{in_split, in_zero, with_self, with_old}

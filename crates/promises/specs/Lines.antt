@@ -4,7 +4,8 @@ use Rattle.rule.specs.declared.Book.{Book}
 use Rattle.rule.specs.declared.Answer.{Answer}
 use Rattle.rule.specs.declared.Answer.TheVariants.{Kept, Implied, Refused}
 use Rattle.rule.specs.Figures.{freedom}
-use Rattle.rule.specs.Books.{Edge, design_of, kept_of}
+use Rattle.rule.specs.declared.Edge.{Edge}
+use Rattle.rule.specs.Books.{design_of, kept_of}
 use Rattle.text.specs.Lines.{line}
 use Rattle.reports.specs.Keys.{key_kept, key_implied}
 use Rattle.reports.specs.Reads.{Offers, none, then}

@@ -2,12 +2,11 @@
 -- answers that are alike.
 --
 -- In order: the kinds of answers; the edges of a book; another order.
-use Rattle.std.specs.Prelude.{◌≡◌, ℕ}
+use Rattle.std.specs.Prelude.{◌≡◌, ℕ, Ok}
 use mathlib.Core.List.{List, [], ◌∷◌, ◌++◌, Permᴰ}
-use Rattle.rule.specs.Books.{Edge}
+use Rattle.rule.specs.declared.Edge.{Edge}
 use Rattle.rule.specs.declared.Book.{Book}
 use Rattle.rule.specs.declared.Reason.{Reason}
-use Rattle.rule.specs.declared.Done.{Done}
 use Rattle.rule.specs.declared.Answer.{Answer}
 use Rattle.rule.specs.declared.Answer.TheVariants.{Kept, Implied, Refused}
 use Rattle.rule.specs.Calls.{Open, Offer}
@@ -44,7 +43,7 @@ Alike (Refused r) (Refused s) = r ≡ s
 
 -- the book was opened and offered these edges, in this order, each answered kept or implied. Refused offers may have come between
 pub data Came (a b n : ℕ) : List Edge → Book → Type 0 where
-  begun : {B : Book} → Open a b n B Done.Fine → Came a b n [] B
+  begun : {B : Book} → Open a b n B (Ok tt) → Came a b n [] B
   took : {edges : List Edge} {before after : Book} (e : Edge) (list listed : List ℕ) (answer : Answer) → Came a b n edges before → Taken answer
       → Offer before after e list listed answer → Came a b n (edges ++ e ∷ []) after
   refused : {edges : List Edge} {before after : Book} (given : Edge) (list listed : List ℕ) (r : Reason) → Came a b n edges before

@@ -1,16 +1,15 @@
 -- What `reaching::try_forests` does: an edge that has tried the forests 1 to j tries the next, or passes over it where it is its own. Where the
 -- search has ended, the later forests change nothing (`stays`).
 -- Assumes nothing.
-use mathlib.Core.Path.{◌≡◌, refl, sym, ap, ◌∙◌, subst}
+use mathlib.Core.Path.{◌≡◌, refl, ap, ◌∙◌, subst}
 use mathlib.Core.List.{List}
-use Prim.Native.Nat.{ℕ, zero, suc, ◌+◌, ◌≤◌}
-use native.Mathlib.Numerals.{add-one}
+use Prim.Native.Nat.{ℕ, zero, suc, ◌-◌, ◌≤◌}
 use native.Mathlib.Omega.{arith}
 use Rattle.rule.proofs.Tests.{by_eq}
 use Rattle.theory.specs.Search.{Waiting, Result, and_then, try_forest, try_forests}
 use Rattle.theory.specs.Search.Result.{found, going}
 use Rattle.theory.proofs.Search.Reached.{grows_refl, grows_trans}
-use Rattle.reaching.specs.declared.Tried.TheVariants.{Free, Waits}
+use Rattle.std.specs.Prelude.{None}
 use Rattle.reaching.specs.Trying.{Comes, Tells, Trying, After}
 use Rattle.reaching.proofs.Further.{try_own}
 
@@ -33,12 +32,12 @@ module _ {u v place n : ℕ} {root way edge queue from seen : List ℕ} (t : Try
   unfolding try_forests
   up_to_suc j = refl
 
-  pub none_tried : Tells (After t queue from seen) place (up_to 0) (Waits n)
+  pub none_tried : Tells (After t queue from seen) place (up_to 0) n None
   unfolding try_forests
   none_tried = record { waiting = t.w; is = refl; holds = (t.waits, record { state = t.state; grows = grows_refl t.w }) }
 
   -- where the search has ended, it has ended
-  pub found_stays : {P : Waiting → Type 0} (i f last : ℕ) → f ≤ last → Tells P place (up_to f) (Free i) → Tells P place (up_to last) (Free i)
+  pub found_stays : {P : Waiting → Type 0} (i f last : ℕ) → f ≤ last → Comes P (found place i) (up_to f) → Comes P (found place i) (up_to last)
   found_stays i f last h a =
       record {
         waiting = a.waiting;
@@ -49,7 +48,7 @@ module _ {u v place n : ℕ} {root way edge queue from seen : List ℕ} (t : Try
   pub all_tried : {P : Waiting → Type 0} {j last : ℕ} → j ≡ last → Comes P going (up_to j) → Comes P going (up_to last)
   all_tried {P} q = subst (λ (z : ℕ). Comes P going (up_to z)) q
 
-  module _ (j : ℕ) {queue' from' seen' : List ℕ} {n' : ℕ} (a : Tells (After t queue' from' seen') place (up_to j) (Waits n')) where
+  module _ (f : ℕ) (low : 1 ≤ f) {queue' from' seen' : List ℕ} {n' : ℕ} (a : Tells (After t queue' from' seen') place (up_to (f - 1)) n' None) where
     -- the edge waits on
     abbrev pub waits_on : Trying u v place n' root way edge queue' from' seen'
     waits_on =
@@ -69,24 +68,25 @@ module _ {u v place n : ℕ} {root way edge queue from seen : List ℕ} (t : Try
           other = t.other;
         }
 
-    this_one : up_to (j + 1) ≡ try_forest t.d t.forest place t.x (j + 1) a.waiting
+    this_one : up_to f ≡ try_forest t.d t.forest place t.x f a.waiting
     this_one =
-        subst (λ (z : ℕ). up_to z ≡ and_then (up_to j) (try_forest t.d t.forest place t.x z)) (sym (add-one j)) (up_to_suc j)
-        ∙ ap (λ (r : Result). and_then r (try_forest t.d t.forest place t.x (j + 1))) a.is
+        let next : suc (f - 1) ≡ f = omega arith in
+        subst (λ (z : ℕ). up_to z ≡ and_then (up_to (f - 1)) (try_forest t.d t.forest place t.x z)) next (up_to_suc (f - 1))
+        ∙ ap (λ (r : Result). and_then r (try_forest t.d t.forest place t.x f)) a.is
 
     further : {queue'' from'' seen'' : List ℕ} (w : Waiting) → After waits_on queue'' from'' seen'' w → After t queue'' from'' seen'' w
     further w b = record { state = b.state; grows = grows_trans t.w a.waiting w a.holds.1.grows b.grows }
 
-    pub own_passed : t.forest t.x ≡ j + 1 → Tells (After t queue' from' seen') place (up_to (j + 1)) (Waits n')
+    pub own_passed : t.forest t.x ≡ f → Tells (After t queue' from' seen') place (up_to f) n' None
     own_passed own =
-        record { waiting = a.waiting; is = this_one ∙ try_own t.d t.forest place t.x (j + 1) a.waiting own; holds = a.holds }
+        record { waiting = a.waiting; is = this_one ∙ try_own t.d t.forest place t.x f a.waiting own; holds = a.holds }
 
     pub next_found : {queue'' from'' seen'' : List ℕ} {i : ℕ}
-        → Tells (After waits_on queue'' from'' seen'') place (try_forest t.d t.forest place t.x (j + 1) a.waiting) (Free i)
-        → Tells (After t queue'' from'' seen'') place (up_to (j + 1)) (Free i)
+        → Comes (After waits_on queue'' from'' seen'') (found place i) (try_forest t.d t.forest place t.x f a.waiting)
+        → Comes (After t queue'' from'' seen'') (found place i) (up_to f)
     next_found b = record { waiting = b.waiting; is = this_one ∙ b.is; holds = further b.waiting b.holds }
 
     pub next_tried : {queue'' from'' seen'' : List ℕ} {m : ℕ}
-        → Tells (After waits_on queue'' from'' seen'') place (try_forest t.d t.forest place t.x (j + 1) a.waiting) (Waits m)
-        → Tells (After t queue'' from'' seen'') place (up_to (j + 1)) (Waits m)
+        → Tells (After waits_on queue'' from'' seen'') place (try_forest t.d t.forest place t.x f a.waiting) m None
+        → Tells (After t queue'' from'' seen'') place (up_to f) m None
     next_tried b = record { waiting = b.waiting; is = this_one ∙ b.is; holds = (b.holds.0, further b.waiting b.holds.1) }

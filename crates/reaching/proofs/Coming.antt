@@ -14,7 +14,7 @@ use Rattle.rule.proofs.Counting.{count_pos, count_with, count_without, numbers_e
 use Rattle.words.specs.Bits.{Lowest, Without}
 use Rattle.reaching.specs.Laid.{Laid, TakesIn}
 use Rattle.reaching.specs.Words.{Carries, CameToWait}
-use Rattle.reaching.proofs.Laid.{laid_none, laid_repeat}
+use Rattle.reaching.proofs.Laid.{laid_none, laid_length, laid_repeat}
 use Rattle.reaching.proofs.Numbers.{numbers_none}
 use Rattle.reaching.proofs.Bits.{carries_none, carries_without}
 
@@ -59,6 +59,12 @@ module _ {of : ℕ → ℕ} {edges : Set} {most size place : ℕ} {queue₀ from
       same_test _ _ (λ t. r.either y h ∙ or_l _ _ t)
       (λ t. ⊎_elim (λ k. k) (λ k. absurd (carries_none of r.todo most left r.carried z y h k)) (or_elim _ _ (sym (r.either y h) ∙ t)))))
       r.came
+
+  -- the queue is as long as it was
+  pub reaching_long : {t : ℕ} {queue' : List ℕ} → Lowest left t → TakesIn (of t) size n queue queue' → length queue' ≡ length queue₀
+  reaching_long {t} low takes =
+      let k = r.carried.number t low.small low.is_set in
+      laid_length (takes.in_order queue₀ r.done most k.0 (r.apart (of t) k.1) r.came.counts r.came.waits)
 
   -- the edge of a bit comes to wait
   module _ {t rest : ℕ} {queue' : List ℕ} (low : Lowest left t) (w : Without left t rest) (enough : length from₀ ≡ 379)

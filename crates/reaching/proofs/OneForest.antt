@@ -5,6 +5,7 @@ use mathlib.Core.Path.{◌≡◌, sym, ap₂, ◌∙◌, subst}
 use mathlib.Core.Logic.{◌≢◌}
 use mathlib.Core.Bool.{Bool, false, false≢true}
 use mathlib.Core.List.{List}
+use Rattle.std.specs.Prelude.{None}
 use Prim.Native.Nat.{ℕ, ◌+◌, ◌-◌, ◌≤◌, ◌<◌}
 use native.Mathlib.Omega.{arith}
 use lib.Bits.{bit_xor, bit_or}
@@ -13,12 +14,12 @@ use Rattle.rule.specs.Sets.{Is, ◌=?◌, In, count, numbers}
 use Rattle.rule.specs.Forests.{limit, in_forest}
 use Rattle.theory.specs.Joined.{spans}
 use Rattle.theory.specs.Search.{fresh, reach, try_forest}
+use Rattle.theory.specs.Search.Result.{found}
 use Rattle.theory.proofs.Legal.Kept.{limit_most}
 use Rattle.theory.proofs.Search.Reached.{size, grows_refl}
 use Rattle.tables.specs.Tables.{start, label, word}
-use Rattle.reaching.specs.declared.Tried.TheVariants.{Free, Waits}
 use Rattle.reaching.specs.Words.{Carries, standing_at, Coming, CameToWait}
-use Rattle.reaching.specs.Trying.{Tells, Trying, After}
+use Rattle.reaching.specs.Trying.{Comes, Tells, Trying, After}
 use Rattle.reaching.proofs.Held.{held_few}
 use Rattle.reaching.proofs.Paths.{joined_ends, carries_fresh}
 use Rattle.reaching.proofs.Further.{try_joined, try_free, next_room, reached_further}
@@ -36,6 +37,17 @@ module _ {u v place n : ℕ} {root way edge queue from seen : List ℕ} (t : Try
   pub ends_are : In 64 u × In 64 v
   ends_are = (subst (In 64) t.one (t.setting.one t.x is_edge), subst (In 64) t.other (t.setting.other t.x is_edge))
 
+  -- the ends as they are read
+  module _ {u' v' : ℕ} (is_u : u' ≡ u) (is_v : v' ≡ v) (f : ℕ) where
+    pub ends_read : In 64 u' × In 64 v'
+    ends_read = (subst (In 64) (sym is_u) ends_are.0, subst (In 64) (sym is_v) ends_are.1)
+
+    pub joined_read : {test : Bool} → test ≡ (label root f u' =? label root f v') → test ≡ (label root f u =? label root f v)
+    joined_read q = q ∙ ap₂ (λ (a b : ℕ). label root f a =? label root f b) is_u is_v
+
+    pub path_read : {on : ℕ} → on ≡ bit_xor (word way f u') (word way f v') → on ≡ bit_xor (word way f u) (word way f v)
+    path_read q = q ∙ ap₂ (λ (a b : ℕ). bit_xor (word way f a) (word way f b)) is_u is_v
+
   module _ {f : ℕ} (allowed : In (limit t.d t.x) f) where
     pub one_of_six : In 6 f
     one_of_six = omega (arith, limit_most t.d t.x, t.setting.forests)
@@ -52,7 +64,7 @@ module _ {u v place n : ℕ} {root way edge queue from seen : List ℕ} (t : Try
     free_then q not_so s = false≢true (sym not_so ∙ q ∙ joined_is ∙ s)
 
     pub free_answers : t.forest t.x ≢ f → ¬ (Is (spans t.d (in_forest t.forest f) t.x))
-        → Tells (After t queue from seen) place (try_forest t.d t.forest place t.x f t.w) (Free f)
+        → Comes (After t queue from seen) (found place f) (try_forest t.d t.forest place t.x f t.w)
     free_answers ne free =
         record { waiting = t.w; is = try_free t.d t.forest place t.x f t.w ne free; holds = record { state = t.state; grows = grows_refl t.w } }
 
@@ -78,7 +90,7 @@ module _ {u v place n : ℕ} {root way edge queue from seen : List ℕ} (t : Try
 
       pub joined_answers : {queue' from' : List ℕ} {r : ℕ} → t.forest t.x ≢ f
           → CameToWait (numbers (fresh t.d t.forest t.w t.x f) t.d.m) n place queue from queue' from' r
-          → Tells (After t queue' from' (set seen (f - 1) (bit_or (get_or seen (f - 1) 0) on))) place (try_forest t.d t.forest place t.x f t.w) (Waits r)
+          → Tells (After t queue' from' (set seen (f - 1) (bit_or (get_or seen (f - 1) 0) on))) place (try_forest t.d t.forest place t.x f t.w) r None
       joined_answers {queue' = queue'} {from' = from'} {r = r} ne c =
           record {
             waiting = reach t.d t.forest place t.x f t.w;

@@ -1,11 +1,9 @@
 -- The turn of a waiting edge, of the model that it computes (specs/Search.antt of crate theory).
-use Rattle.std.specs.Prelude.{◌≡◌, List, ℕ, ◌<◌, length}
+use Rattle.std.specs.Prelude.{◌≡◌, List, ℕ, ◌<◌, length, Option, Some, None}
 use Rattle.rule.specs.Legal.{Design}
 use Rattle.theory.specs.Search.{Waiting, edge_at, Result}
 use Rattle.theory.specs.Search.Result.{found, going}
 use Rattle.theory.proofs.Search.Reached.{Grows}
-use Rattle.reaching.specs.declared.Tried.{Tried}
-use Rattle.reaching.specs.declared.Tried.TheVariants.{Free, Waits}
 use Rattle.reaching.specs.Setting.{Setting, SearchState}
 
 -- the model has come to an outcome with edges waiting of which P holds
@@ -14,10 +12,10 @@ pub record Comes (P : Waiting → Type 0) (outcome : Waiting → Result) (model 
   pub is : model ≡ outcome waiting
   pub holds : P waiting
 
--- the answer of an edge that waits at a place is what the model has come to
-abbrev pub Tells : (Waiting → Type 0) → (place : ℕ) → Result → Tried → Type 0
-Tells P place model (Free forest) = Comes P (found place forest) model
-Tells P place model (Waits n) = Comes (λ w. (n ≡ length w.queue) × P w) going model
+-- the answer of an edge that waits at a place is what the model has come to: a forest that is free, or none, and n edges wait then
+abbrev pub Tells : (Waiting → Type 0) → (place : ℕ) → Result → (n : ℕ) → Option ℕ → Type 0
+Tells P place model n (Some forest) = Comes P (found place forest) model
+Tells P place model n None = Comes (λ w. (n ≡ length w.queue) × P w) going model
 
 -- The edge x, which joins u and v, waits at a place of n.
 pub record Trying (u v place n : ℕ) (root way edge queue from seen : List ℕ) : Type 0 where

@@ -4,86 +4,56 @@
 
 ghost use Rattle.std.specs.Prelude.{◌≡◌};
 ghost use Rattle.rule.specs.Calls.{new_book};
+ghost use Rattle.labels.specs.Labels.{Begun};
+ghost use Rattle.book.specs.Scan.{Cleared};
 ghost use Rattle.text.specs.Sheets.{SheetRange};
-ghost use Rattle.text.specs.EdgeLists.{lists, Roomy, edges_in, sheet_in};
+ghost use Rattle.text.specs.EdgeLists.{lists_of, edges_in, sheet_in};
 ghost use Rattle.reports.specs.Reads.{Offers, Receives};
 
-use engine::Head;
-use reports::{Read, Received, State};
+use engine::Scratch;
+use reports::{Read, State};
 use rule::Book;
-use text::Judgement;
+use tables::Tables;
+use text::{Edges, Head};
+
+// The tables of forests that have no edge yet.
+fn no_forests() -> Tables
+    ensures begun { Begun result.labels.root result.labels.who }
+    ensures cleared { Cleared result.size }
+{
+    let mut tables = Tables::new();
+    labels::begin(&mut tables.labels);
+    tables
+}
 
 // The book of a sheet whose edges stand in lists: a book is opened and offered the edges in order.
-fn grow(a: u8, b: u8, n: u8, edges: u16, us: &[u8; 512], vs: &[u8; 512], cs: &[u8; 512]) -> Book
-    requires { Roomy (lists us.now vs.now cs.now) × SheetRange (sheet_in a b n edges (lists us.now vs.now cs.now)) }
-    ensures { Offers (new_book a b n) (edges_in (lists us.now vs.now cs.now) edges) result }
+fn grow(head: Head, edges: &Edges) -> Book
+    requires { SheetRange (sheet_in head.a head.b head.n head.edges (lists_of edges.now)) }
+    ensures { Offers (new_book head.a head.b head.n) (edges_in (lists_of edges.now) head.edges) result }
 {
-    let mut ones = [0u8; 512];
-    let mut others = [0u8; 512];
-    let mut colours = [0u8; 512];
-    let mut forests = [0u8; 512];
-    let mut root = [0u8; 384];
-    let mut way = [0u64; 384];
-    let mut who = [0u64; 384];
-    let mut edge = [0u16; 384];
-    let mut size = [0u8; 6];
-    let mut queue = [0u16; 379];
-    let mut from = [0u16; 379];
-    let mut path = [0u16; 379];
+    let mut book = book::new_book(head.a, head.b, head.n);
+    let mut tables = no_forests();
+    let mut scratch = Scratch::new();
     let mut list = [0u16; 378];
-    labels::begin(&mut root, &mut who);
-    let mut count: u16 = 0;
-    while count < edges {
-        let head = Head { a, b, n, count };
-        let i = count as usize;
-        engine::take(
-            head,
-            us[i],
-            vs[i],
-            cs[i],
-            &mut ones,
-            &mut others,
-            &mut colours,
-            &mut forests,
-            &mut root,
-            &mut way,
-            &mut who,
-            &mut edge,
-            &mut size,
-            &mut queue,
-            &mut from,
-            &mut path,
-            &mut list,
-        );
-        count += 1;
+    for i in 0..usize::from(head.edges) {
+        let due = edges.edge(i);
+        engine::take(&mut book, due, &mut tables, &mut scratch, &mut list);
     }
-    Book {
-        a: a,
-        b: b,
-        n: n,
-        count: edges,
-        ones: ones,
-        others: others,
-        colours: colours,
-        forests: forests,
-    }
+    book
 }
 
 // The book of a text, or the reason and the line at fault with a book of zeros.
 pub fn read(text: &[u8]) -> Read
     ensures { Receives text.now result.book result.received }
 {
-    let mut us = [0u8; 512];
-    let mut vs = [0u8; 512];
-    let mut cs = [0u8; 512];
-    let found = text::find(text, &mut us, &mut vs, &mut cs);
-    match found {
-        Judgement::Sheet { a, b, n, edges } => Read {
-            received: Received::Fine,
-            book: grow(a, b, n, edges, &us, &vs, &cs),
+    let mut edges = Edges::new();
+    match text::find(text, &mut edges) {
+        Ok(head) => Read {
+            received: Ok(()),
+            book: grow(head, &edges),
         },
-        Judgement::Refused(reason, line) => Read {
-            received: Received::Refused(reason, line),
+        Err(refusal) => Read {
+            received: Err(refusal),
             book: book::new_book(0, 0, 0),
         },
     }
@@ -94,11 +64,9 @@ pub fn begin(text: &[u8]) -> State
     ensures { Receives text.now result.book result.received × (result.line ≡ 0) }
 {
     let r = read(text);
-    let received = r.received;
-    let book = r.book;
     State {
-        received: received,
-        book: book,
+        received: r.received,
+        book: r.book,
         line: 0,
     }
 }

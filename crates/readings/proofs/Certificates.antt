@@ -10,6 +10,7 @@ use mathlib.Core.List.{List, [], ◌∷◌}
 use Prim.Native.Nat.{ℕ, ◌+◌, ◌≤◌}
 use native.Mathlib.Omega.{arith}
 use lib.ListN.{length, get_or}
+use Rattle.std.specs.Prelude.{Result, Ok}
 use Rattle.rule.specs.declared.Book.{Book}
 use Rattle.rule.specs.Sets.{Is, Set, In, below}
 use Rattle.rule.specs.Legal.{Design, k, Grown}
@@ -23,7 +24,7 @@ use Rattle.theory.proofs.Legal.Sound.{sound_arranged}
 use Rattle.text.specs.Lines.{line}
 use Rattle.text.proofs.LineReads.{line_number_determined}
 use Rattle.step.proofs.Runs.{Grew}
-use Rattle.reports.specs.declared.Received.{Received}
+use Rattle.text.specs.declared.Refusal.{Refusal}
 use Rattle.reports.specs.Keys.{key_forest, key_implied}
 use Rattle.reports.specs.Reads.{Receives}
 use Rattle.reports.specs.Reports.{ForestLine}
@@ -38,7 +39,7 @@ not_implied : (f : ℕ) (circuit : List ℕ) → ¬ (line key_forest (f ∷ []) 
 unfolding line
 not_implied f circuit q = absurd (omega (arith, ap (λ (l : List ℕ). get_or l 0 0) q))
 
-module _ {text : List ℕ} {lines : List (List ℕ)} (c : Certificate text lines) (fine : c.received ≡ Received.Fine) where
+module _ {text : List ℕ} {lines : List (List ℕ)} (c : Certificate text lines) (fine : c.received ≡ Ok tt) where
   abbrev B : Book
   B = c.book
 
@@ -54,7 +55,7 @@ module _ {text : List ℕ} {lines : List (List ℕ)} (c : Certificate text lines
   forest_line : (e : ℕ) → In B.count e → ForestLine B (below (kept_of B)) e (get_or lines (B.count + e + 3) [])
   forest_line e h =
       certificate_line_forest B (below (kept_of B)) e h (get_or lines (B.count + e + 3) [])
-      (subst (λ (r : Received). CertificateOf B r (B.count + e + 3) (get_or lines (B.count + e + 3) [])) fine
+      (subst (λ (r : Result Unit Refusal). CertificateOf B r (B.count + e + 3) (get_or lines (B.count + e + 3) [])) fine
       (c.each (B.count + e + 3) (omega (arith, so_many, h.high))))
 
   -- the forest that the line of an edge names is its forest in the book

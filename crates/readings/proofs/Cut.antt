@@ -10,10 +10,11 @@ use Prim.Native.Nat.{ℕ, ◌≤◌}
 use native.Mathlib.Omega.{arith}
 use lib.ListN.{length, take}
 use lib.Seq.{length-take-le}
+use Rattle.std.specs.Prelude.{Result, Ok, Err}
 use Rattle.rule.specs.declared.Book.{Book}
 use Rattle.text.proofs.Sizes.{sheet_size}
 use Rattle.text.proofs.Cuts.{read_room, cut_same}
-use Rattle.reports.specs.declared.Received.{Received}
+use Rattle.text.specs.declared.Refusal.{Refusal}
 use Rattle.reports.specs.Reads.{Reads, Receives}
 use Rattle.reports.specs.Texts.{Report, Certificate}
 
@@ -28,15 +29,15 @@ module _ (text : List ℕ) (long : read_room ≤ length text) where
   cut_long = omega (arith, length-take-le read_room text long)
 
   -- reading answers alike
-  received_cut : (B : Book) (r : Received) → Receives text B r → Receives cut B r
-  received_cut B Received.Fine p = absurd (no_book long p)
-  received_cut B (Received.Refused reason number) p = ((cut_same text long reason number).0 p.0, p.1)
+  received_cut : (B : Book) (r : Result Unit Refusal) → Receives text B r → Receives cut B r
+  received_cut B (Ok done) p = absurd (no_book long p)
+  received_cut B (Err refusal) p = ((cut_same text long refusal.reason refusal.line).0 p.0, p.1)
 
-  received_whole : (B : Book) (r : Received) → Receives cut B r → Receives text B r
-  received_whole B Received.Fine p = absurd (no_book cut_long p)
-  received_whole B (Received.Refused reason number) p = ((cut_same text long reason number).1 p.0, p.1)
+  received_whole : (B : Book) (r : Result Unit Refusal) → Receives cut B r → Receives text B r
+  received_whole B (Ok done) p = absurd (no_book cut_long p)
+  received_whole B (Err refusal) p = ((cut_same text long refusal.reason refusal.line).1 p.0, p.1)
 
-  pub receives_cut : (B : Book) (r : Received) → (Receives text B r ↔ Receives cut B r)
+  pub receives_cut : (B : Book) (r : Result Unit Refusal) → (Receives text B r ↔ Receives cut B r)
   receives_cut B r = (received_cut B r, received_whole B r)
 
   -- ---- the report

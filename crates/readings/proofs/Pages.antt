@@ -10,10 +10,11 @@ use mathlib.Core.List.{List, [], ◌++◌, append_assoc, append-nil}
 use Prim.Native.Nat.{ℕ, suc, ◌+◌, ◌≤◌, ◌<◌}
 use native.Mathlib.Omega.{arith}
 use lib.ListN.{length, take}
+use Rattle.std.specs.Prelude.{Result, Ok, Err}
 use Rattle.rule.specs.declared.Book.{Book}
 use Rattle.rule.specs.Reasons.{Pass}
 use Rattle.theory.proofs.Legal.Sound.{sound_head}
-use Rattle.reports.specs.declared.Received.{Received}
+use Rattle.text.specs.declared.Refusal.{Refusal}
 use Rattle.reports.specs.declared.State.{State}
 use Rattle.reports.specs.declared.Line.{Line}
 use Rattle.reports.specs.Steps.{Form, report, certificate, lines_of, LineOf, written, line_room, Readable, step_checks, Lines, none, then, PageOf, Page}
@@ -23,7 +24,7 @@ use Rattle.readings.proofs.Calls.{next_over, over_all, all_there}
 
 -- ---- the lines of a page
 
-module _ (form : Form) (B : Book) (received : Received) (places i : ℕ) where
+module _ (form : Form) (B : Book) (received : Result Unit Refusal) (places i : ℕ) where
   -- they go on, or there is none
   lines_begin : {j : ℕ} {bytes : List ℕ} → Lines form B received places i j bytes → (i < j) ⊎ ((i ≡ j) × (bytes ≡ []))
   lines_begin none = inr (refl, refl)
@@ -126,10 +127,10 @@ module _ (form : Form) (first : State) (start : first.line ≡ 0) where
 -- ---- how many lines there are
 
 module _ (B : Book) where
-  pub report_few : (r : Received) → Readable B r → lines_of report B r ≤ 516
-  report_few Received.Fine sound = omega (arith, report_number B, (sound_head B sound).edges)
-  report_few (Received.Refused reason number) tt = omega arith
+  pub report_few : (r : Result Unit Refusal) → Readable B r → lines_of report B r ≤ 516
+  report_few (Ok done) sound = omega (arith, report_number B, (sound_head B sound).edges)
+  report_few (Err refusal) tt = omega arith
 
-  pub certificate_few : (r : Received) → Readable B r → lines_of certificate B r ≤ 1028
-  certificate_few Received.Fine sound = omega (arith, certificate_number B, (sound_head B sound).edges)
-  certificate_few (Received.Refused reason number) tt = omega arith
+  pub certificate_few : (r : Result Unit Refusal) → Readable B r → lines_of certificate B r ≤ 1028
+  certificate_few (Ok done) sound = omega (arith, certificate_number B, (sound_head B sound).edges)
+  certificate_few (Err refusal) tt = omega arith

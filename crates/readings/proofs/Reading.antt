@@ -15,7 +15,8 @@ use Rattle.rule.specs.declared.Book.{Book}
 use Rattle.rule.specs.declared.Answer.{Answer}
 use Rattle.rule.specs.declared.Answer.TheVariants.{Kept, Implied, Refused}
 use Rattle.rule.specs.Sets.{at}
-use Rattle.rule.specs.Books.{edge_of, Edge, next}
+use Rattle.rule.specs.declared.Edge.{Edge}
+use Rattle.rule.specs.Books.{edge_of, next}
 use Rattle.rule.specs.Reasons.{Pass, offer_checks}
 use Rattle.rule.specs.Calls.{new_book, Adds, Offer}
 use Rattle.rule.proofs.Passed.{passed_offer}

@@ -10,11 +10,13 @@ use mathlib.Core.List.{List}
 use Prim.Native.Nat.{ℕ, zero, suc, ◌≤◌}
 use native.Mathlib.Omega.{arith}
 use lib.ListN.{drop}
+use Rattle.std.specs.Prelude.{Result, Ok, Err}
 use Rattle.rule.specs.declared.Book.{Book}
 use Rattle.rule.specs.declared.Reason.{Reason}
 use Rattle.rule.specs.Sets.{Is, ◌=?◌, In, at}
 use Rattle.rule.specs.Legal.{Design, Grown}
-use Rattle.rule.specs.Books.{Edge, design_of, forest_of, kept_of}
+use Rattle.rule.specs.declared.Edge.{Edge}
+use Rattle.rule.specs.Books.{design_of, forest_of, kept_of}
 use Rattle.rule.proofs.Tests.{same_test}
 use Rattle.rule.proofs.Places.{at_zero}
 use Rattle.rule.proofs.Determined.{grown_determined}
@@ -22,9 +24,8 @@ use Rattle.rule.proofs.Outcomes.{SameButForests}
 use Rattle.theory.proofs.Legal.Kept.{kept_make, kept_has, kept_most}
 use Rattle.text.specs.Sheets.{Sheet}
 use Rattle.text.specs.Faults.{RefusedAt}
-use Rattle.text.specs.declared.Judgement.{Judgement}
 use Rattle.text.proofs.Answers.{same_sheet, never_both, judge_determined}
-use Rattle.reports.specs.declared.Received.{Received}
+use Rattle.text.specs.declared.Refusal.{Refusal}
 use Rattle.reports.specs.Reads.{Reads, Receives}
 use Rattle.step.proofs.Runs.{Grew}
 use Rattle.readings.proofs.Reading.{zeros, Holds, reads_grew, reads_hold}
@@ -121,21 +122,25 @@ reads_same {text} {B} {C} p q =
 pub reads_not_refused : {X : Type 0} {text : List ℕ} {B : Book} {reason : Reason} {line : ℕ} → Reads text B → RefusedAt text reason line → X
 reads_not_refused {text = text} p q = never_both text p.sheet q.0 p.range p.is_text q.1
 
+abbrev refusal : Reason → ℕ → Refusal
+refusal reason line = record { reason = reason; line = line }
+
 -- a text is refused for one reason, in one line
 pub refused_determined : (text : List ℕ) {r s : Reason} {i j : ℕ} → RefusedAt text r i → RefusedAt text s j → (r ≡ s) × (i ≡ j)
 refused_determined text {r} {s} {i} {j} p q =
-    let one = judge_determined text (Judgement.Refused r i) (Judgement.Refused s j) p q in
-    (cc, cc)
+    let one = judge_determined text (Err (refusal r i)) (Err (refusal s j)) p q in
+    let same : refusal r i ≡ refusal s j = cc in
+    (ap (λ (x : Refusal). x.reason) same, ap (λ (x : Refusal). x.line) same)
 
 -- the books agree: in all but the choice of forests, or whole where the text is refused
-abbrev pub BooksAgree : Received → Book → Book → Type 0
-BooksAgree Received.Fine B C = SameButForests B.count B C
-BooksAgree (Received.Refused reason line) B C = B ≡ C
+abbrev pub BooksAgree : Result Unit Refusal → Book → Book → Type 0
+BooksAgree (Ok done) B C = SameButForests B.count B C
+BooksAgree (Err refusal) B C = B ≡ C
 
-pub receives_determined : (text : List ℕ) (B C : Book) (r s : Received) → Receives text B r → Receives text C s → (r ≡ s) × BooksAgree r B C
-receives_determined text B C Received.Fine Received.Fine p q = (refl, reads_same p q)
-receives_determined text B C Received.Fine (Received.Refused s j) p q = reads_not_refused p q.0
-receives_determined text B C (Received.Refused r i) Received.Fine p q = reads_not_refused q p.0
-receives_determined text B C (Received.Refused r i) (Received.Refused s j) p q =
+pub receives_determined : (text : List ℕ) (B C : Book) (r s : Result Unit Refusal) → Receives text B r → Receives text C s → (r ≡ s) × BooksAgree r B C
+receives_determined text B C (Ok done) (Ok too) p q = (refl, reads_same p q)
+receives_determined text B C (Ok done) (Err refusal) p q = reads_not_refused p q.0
+receives_determined text B C (Err refusal) (Ok done) p q = reads_not_refused q p.0
+receives_determined text B C (Err r) (Err s) p q =
     let one = refused_determined text p.0 q.0 in
-    (ap₂ Received.Refused one.0 one.1, p.1 ∙ sym q.1)
+    (ap₂ (λ (reason : Reason) (line : ℕ). Err (refusal reason line)) one.0 one.1, p.1 ∙ sym q.1)

@@ -10,6 +10,7 @@ use mathlib.Core.List.{List, ◌++◌}
 use Prim.Native.Nat.{ℕ, ◌+◌, ◌≤◌, ◌<◌}
 use native.Mathlib.Omega.{arith}
 use lib.ListN.{length, drop}
+use Rattle.std.specs.Prelude.{Result, Ok, Err}
 use Rattle.rule.specs.declared.Book.{Book}
 use Rattle.rule.specs.declared.Reason.{Reason}
 use Rattle.rule.specs.Books.{design_of, kept_of}
@@ -17,7 +18,7 @@ use Rattle.rule.specs.Reasons.{Pass}
 use Rattle.rule.proofs.Tests.{by_eq}
 use Rattle.rule.proofs.Determined.{Single, fail_determined, pass_not_fail, nothing_single, place_single}
 use Rattle.text.specs.Puts.{Writes}
-use Rattle.reports.specs.declared.Received.{Received}
+use Rattle.text.specs.declared.Refusal.{Refusal}
 use Rattle.reports.specs.declared.State.{State}
 use Rattle.reports.specs.declared.Line.{Line}
 use Rattle.reports.specs.Steps.{Form, report, certificate, lines_of, LineOf, written, line_room, step_checks, NextLine, Next, Lines, none, then, PageOf, Page}
@@ -35,9 +36,9 @@ report_determines B i = report_line_determined (design_of B) (kept_of B) (λ e. 
 pub certificate_determines : LinesDetermined certificate
 certificate_determines B i = certificate_line_determined B (λ e. kept_of B) i
 
-line_determined : (form : Form) → LinesDetermined form → (B : Book) (received : Received) (i : ℕ) → Determined (LineOf form B received i)
-line_determined form det B Received.Fine i x y p q = det B i x y p q
-line_determined form det B (Received.Refused reason number) i x y p q = p ∙ sym q
+line_determined : (form : Form) → LinesDetermined form → (B : Book) (received : Result Unit Refusal) (i : ℕ) → Determined (LineOf form B received i)
+line_determined form det B (Ok done) i x y p q = det B i x y p q
+line_determined form det B (Err refusal) i x y p q = p ∙ sym q
 
 -- ---- one state, one buffer
 
@@ -95,7 +96,7 @@ module _ (form : Form) (det : LinesDetermined form) (s : State) (buffer : List �
 
 -- ---- the lines of a page
 
-module _ (form : Form) (det : LinesDetermined form) (B : Book) (received : Received) (places i : ℕ) where
+module _ (form : Form) (det : LinesDetermined form) (B : Book) (received : Result Unit Refusal) (places i : ℕ) where
   lines_up : {j : ℕ} {x : List ℕ} → Lines form B received places i j x → i ≤ j
   lines_up none = omega arith
   lines_up (then more l room left is) = omega (arith, lines_up l)

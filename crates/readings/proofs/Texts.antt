@@ -10,13 +10,14 @@ use mathlib.Core.Logic.{inl, inr, ◌↔◌}
 use mathlib.Core.List.{List}
 use Prim.Native.Nat.{ℕ, ◌<◌}
 use native.Mathlib.Omega.{arith}
+use Rattle.std.specs.Prelude.{Result, Ok, Err}
 use Rattle.rule.specs.declared.Book.{Book}
 use Rattle.rule.specs.declared.Reason.{Reason}
 use Rattle.rule.specs.Sets.{Set, below}
 use Rattle.rule.specs.Legal.{Design}
 use Rattle.rule.specs.Books.{design_of, kept_of}
 use Rattle.text.specs.Faults.{RefusedAt}
-use Rattle.reports.specs.declared.Received.{Received}
+use Rattle.text.specs.declared.Refusal.{Refusal}
 use Rattle.reports.specs.Reads.{Reads, Receives}
 use Rattle.reports.specs.Reports.{ReportLine, refused_line}
 use Rattle.reports.specs.Steps.{report, certificate, lines_of, LineOf}
@@ -56,39 +57,39 @@ report_determined text i x y (inr p) (inl q) = reads_not_refused q.1 p.2
 report_determined text i x y (inr p) (inr q) = only_refused_determined text i x y p q
 
 module _ (text : List ℕ) (B : Book) (i : ℕ) (bytes : List ℕ) where
-  to_report : (r : Received) → Receives text B r → i < lines_of report B r → LineOf report B r i bytes → Report text i bytes
-  to_report Received.Fine p h l = let g = reads_grew p in inl (B, p, (report_settled B g.sound g.grown i bytes).0 l)
-  to_report (Received.Refused reason number) p h l = inr (reason, number, p.0, omega arith, l)
+  to_report : (r : Result Unit Refusal) → Receives text B r → i < lines_of report B r → LineOf report B r i bytes → Report text i bytes
+  to_report (Ok done) p h l = let g = reads_grew p in inl (B, p, (report_settled B g.sound g.grown i bytes).0 l)
+  to_report (Err refusal) p h l = inr (refusal.reason, refusal.line, p.0, omega arith, l)
 
-  from_report : (r : Received) → Receives text B r → Report text i bytes → LineOf report B r i bytes
-  from_report Received.Fine p (inl q) =
+  from_report : (r : Result Unit Refusal) → Receives text B r → Report text i bytes → LineOf report B r i bytes
+  from_report (Ok done) p (inl q) =
       let g = reads_grew p in
       (report_settled B g.sound g.grown i bytes).1 (report_same i bytes q.1 p q.2)
-  from_report Received.Fine p (inr q) = reads_not_refused p q.2
-  from_report (Received.Refused reason number) p (inl q) = reads_not_refused q.1 p.0
-  from_report (Received.Refused reason number) p (inr q) = q.4 ∙ refused_same text q.2 p.0
+  from_report (Ok done) p (inr q) = reads_not_refused p q.2
+  from_report (Err refusal) p (inl q) = reads_not_refused q.1 p.0
+  from_report (Err refusal) p (inr q) = q.4 ∙ refused_same text q.2 p.0
 
   -- line i of what was read is line i of the text's report
-  pub report_of_text : (r : Received) → Receives text B r → i < lines_of report B r → (LineOf report B r i bytes ↔ Report text i bytes)
+  pub report_of_text : (r : Result Unit Refusal) → Receives text B r → i < lines_of report B r → (LineOf report B r i bytes ↔ Report text i bytes)
   report_of_text r p h = (to_report r p h, from_report r p)
 
   -- and of the certificate of that book
-  certificate_of_book : Reads text B → (LineOf certificate B Received.Fine i bytes ↔ CertificateOf B Received.Fine i bytes)
+  certificate_of_book : Reads text B → (LineOf certificate B (Ok tt) i bytes ↔ CertificateOf B (Ok tt) i bytes)
   certificate_of_book p = let g = reads_grew p in certificate_settled B g.sound g.grown i bytes
 
-  pub certificate_of_text : (r : Received) → Receives text B r → i < lines_of certificate B r → (LineOf certificate B r i bytes ↔ CertificateOf B r i bytes)
-  certificate_of_text Received.Fine p h = certificate_of_book p
-  certificate_of_text (Received.Refused reason number) p h = ((λ l. (omega arith, l)), (λ l. l.1))
+  pub certificate_of_text : (r : Result Unit Refusal) → Receives text B r → i < lines_of certificate B r → (LineOf certificate B r i bytes ↔ CertificateOf B r i bytes)
+  certificate_of_text (Ok done) p h = certificate_of_book p
+  certificate_of_text (Err refusal) p h = ((λ l. (omega arith, l)), (λ l. l.1))
 
   -- ---- how many lines there are
 
-  pub report_within : (r : Received) → Receives text B r → Report text i bytes → i < lines_of report B r
-  report_within Received.Fine p (inl q) =
+  pub report_within : (r : Result Unit Refusal) → Receives text B r → Report text i bytes → i < lines_of report B r
+  report_within (Ok done) p (inl q) =
       report_line_within (design_of B) (kept_of B) (below (kept_of B)) (λ e. kept_of B) i bytes (report_same i bytes q.1 p q.2)
-  report_within Received.Fine p (inr q) = reads_not_refused p q.2
-  report_within (Received.Refused reason line) p (inl q) = reads_not_refused q.1 p.0
-  report_within (Received.Refused reason line) p (inr q) = omega (arith, q.3)
+  report_within (Ok done) p (inr q) = reads_not_refused p q.2
+  report_within (Err refusal) p (inl q) = reads_not_refused q.1 p.0
+  report_within (Err refusal) p (inr q) = omega (arith, q.3)
 
-  pub certificate_within : (r : Received) → CertificateOf B r i bytes → i < lines_of certificate B r
-  certificate_within Received.Fine l = certificate_line_within B (below (kept_of B)) (λ e. kept_of B) i bytes l
-  certificate_within (Received.Refused reason line) l = omega (arith, l.0)
+  pub certificate_within : (r : Result Unit Refusal) → CertificateOf B r i bytes → i < lines_of certificate B r
+  certificate_within (Ok done) l = certificate_line_within B (below (kept_of B)) (λ e. kept_of B) i bytes l
+  certificate_within (Err refusal) l = omega (arith, l.0)

@@ -11,8 +11,8 @@ use mathlib.Core.Logic.{◌↔◌}
 use mathlib.Core.List.{List}
 use Prim.Native.Nat.{ℕ, suc, ◌≤◌, ◌<◌}
 use lib.ListN.{length, take}
+use Rattle.std.specs.Prelude.{Result, Ok}
 use Rattle.rule.specs.declared.Book.{Book}
-use Rattle.rule.specs.declared.Figure.{Figure}
 use Rattle.rule.specs.Sets.{Is, Set, In, below}
 use Rattle.rule.specs.Legal.{Grown}
 use Rattle.rule.specs.Forests.{Loopless}
@@ -21,7 +21,7 @@ use Rattle.rule.specs.Reasons.{Pass}
 use Rattle.rule.proofs.Outcomes.{SameButForests}
 use Rattle.step.specs.Runs.{Run}
 use Rattle.step.proofs.Runs.{Grew}
-use Rattle.reports.specs.declared.Received.{Received}
+use Rattle.text.specs.declared.Refusal.{Refusal}
 use Rattle.reports.specs.declared.State.{State}
 use Rattle.reports.specs.declared.Line.{Line}
 use Rattle.reports.specs.Reads.{sheet_of, Reads, Receives, Written}
@@ -71,7 +71,7 @@ module _ {text : List ℕ} {B C : Book} (p : Reads text B) (q : Reads text C) wh
   reads_kept = Same.same_kept B C reads_same
 
 -- reading gives one answer; the books agree in all but the choice of forests, and whole where the text is refused
-pub receives_determined : (text : List ℕ) (B C : Book) (r s : Received) → Receives text B r → Receives text C s → (r ≡ s) × BooksAgree r B C
+pub receives_determined : (text : List ℕ) (B C : Book) (r s : Result Unit Refusal) → Receives text B r → Receives text C s → (r ≡ s) × BooksAgree r B C
 receives_determined = Same.receives_determined
 
 -- ---- 2. The circuits settle
@@ -110,7 +110,7 @@ certificate_page_determined = Stepping.page_determined certificate Stepping.cert
 -- ---- 4. The lines of a text
 
 -- of what was read each line is the text's, as many and no more
-module _ (text : List ℕ) (B : Book) (i : ℕ) (bytes : List ℕ) (r : Received) (p : Receives text B r) where
+module _ (text : List ℕ) (B : Book) (i : ℕ) (bytes : List ℕ) (r : Result Unit Refusal) (p : Receives text B r) where
   pub report_of_text : i < lines_of report B r → (LineOf report B r i bytes ↔ Report text i bytes)
   report_of_text = Texts.report_of_text text B i bytes r p
 
@@ -193,7 +193,7 @@ pages_end form first t u n bytes buffer buffered answer start run all passed nex
 
 -- of the printed lines of a certificate, all of one book (`Certificate`), whoever counts them through may rely on this: a red edge has a forest line with 1
 -- to a; edges whose lines name one forest form no closed loop; and the edges with a forest line are exactly the kept ones
-module _ {text : List ℕ} {lines : List (List ℕ)} (c : Certificate text lines) (fine : c.received ≡ Received.Fine) where
+module _ {text : List ℕ} {lines : List (List ℕ)} (c : Certificate text lines) (fine : c.received ≡ Ok tt) where
   pub shown_red : (e f : ℕ) → In c.book.count e → Is ((design_of c.book).red e) → ForestShown lines c.book.count e f → In c.book.a f
   unfolding design_of
   shown_red = Certificates.shown_red c fine
@@ -218,11 +218,11 @@ module _ (text : List ℕ) (long : read_room ≤ length text) where
 
 -- ---- 8. The round trip
 
-module _ (B : Book) (buffer buffered : List ℕ) (n : ℕ) (w : Written B buffer buffered (Figure.Number n)) where
+module _ (B : Book) (buffer buffered : List ℕ) (n : ℕ) (w : Written B buffer buffered (Ok n)) where
   -- what was written of a book (which is then sound) is read again, as a book of the same sheet
-  pub read_written : (C : Book) (r : Received) → Receives (take n buffered) C r → (r ≡ Received.Fine) × (sheet_of C ≡ sheet_of B)
+  pub read_written : (C : Book) (r : Result Unit Refusal) → Receives (take n buffered) C r → (r ≡ Ok tt) × (sheet_of C ≡ sheet_of B)
   read_written = Trips.read_written B w
 
   -- what was read is written again, byte by byte
-  pub write_read : (text : List ℕ) → Receives text B Received.Fine → take n buffered ≡ text
+  pub write_read : (text : List ℕ) → Receives text B (Ok tt) → take n buffered ≡ text
   write_read = Trips.write_read B w

@@ -9,9 +9,10 @@ use mathlib.Core.List.{List, []}
 use Prim.Native.Nat.{ℕ, ◌≤◌, ◌<◌}
 use native.Mathlib.Omega.{arith}
 use lib.ListN.{length, get_or}
+use Rattle.std.specs.Prelude.{Result, Ok, Err}
 use Rattle.rule.specs.declared.Book.{Book}
 use Rattle.rule.specs.Reasons.{Pass}
-use Rattle.reports.specs.declared.Received.{Received}
+use Rattle.text.specs.declared.Refusal.{Refusal}
 use Rattle.reports.specs.declared.State.{State}
 use Rattle.reports.specs.declared.Line.{Line}
 use Rattle.reports.specs.Reads.{Receives}
@@ -25,9 +26,9 @@ use Rattle.readings.proofs.Pages.{Pages, page_ends, pages_to}
 
 -- ---- what was read can be stepped through
 
-pub receives_readable : (text : List ℕ) (B : Book) (r : Received) → Receives text B r → Readable B r
-receives_readable text B Received.Fine p = (reads_grew p).sound
-receives_readable text B (Received.Refused reason number) p = tt
+pub receives_readable : (text : List ℕ) (B : Book) (r : Result Unit Refusal) → Receives text B r → Readable B r
+receives_readable text B (Ok done) p = (reads_grew p).sound
+receives_readable text B (Err refusal) p = tt
 
 -- where the buffer has a line's room every check passes, however many lines have come
 pub readable_pass : (first t : State) (k : ℕ) → t ≡ written first k → Readable first.book first.received → (buffer : List ℕ)

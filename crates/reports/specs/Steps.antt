@@ -1,12 +1,12 @@
 -- The report and the certificate line by line: what a stepper answers, writes and leaves behind, for every state, however it came about.
 --
 -- In order: a form, which is the report or the certificate; the lines of a state; the checks; the next line; a page of lines.
-use Rattle.std.specs.Prelude.{◌≡◌, ◌⊎◌, List, [], ◌∷◌, ◌++◌, ℕ, suc, ◌+◌, ◌≤◌, ◌<◌, length}
+use Rattle.std.specs.Prelude.{◌≡◌, ◌⊎◌, List, [], ◌∷◌, ◌++◌, ℕ, suc, ◌+◌, ◌≤◌, ◌<◌, length, Result, Ok, Err}
 use Rattle.rule.specs.declared.Book.{Book}
 use Rattle.rule.specs.Books.{design_of, kept_of, Sound, FirstBad}
 use Rattle.rule.specs.Reasons.{Check, Pass, FailBy, room}
 use Rattle.text.specs.Puts.{Writes}
-use Rattle.reports.specs.declared.Received.{Received}
+use Rattle.text.specs.declared.Refusal.{Refusal}
 use Rattle.reports.specs.declared.State.{State}
 use Rattle.reports.specs.declared.Line.{Line}
 use Rattle.reports.specs.Answers.{LineSays}
@@ -35,14 +35,14 @@ certificate = in_sections (λ B. certificate_lines B (λ e. kept_of B))
 -- ---- the lines of a state
 
 -- how many lines there are of what was read: of a refused text one
-abbrev pub lines_of : Form → Book → Received → ℕ
-lines_of form B Received.Fine = form.number B
-lines_of form B (Received.Refused reason number) = 1
+abbrev pub lines_of : Form → Book → Result Unit Refusal → ℕ
+lines_of form B (Ok done) = form.number B
+lines_of form B (Err refusal) = 1
 
 -- what line i of it is
-abbrev pub LineOf : Form → Book → Received → ℕ → List ℕ → Type 0
-LineOf form B Received.Fine i bytes = form.Says B i bytes
-LineOf form B (Received.Refused reason number) i bytes = bytes ≡ refused_line reason number
+abbrev pub LineOf : Form → Book → Result Unit Refusal → ℕ → List ℕ → Type 0
+LineOf form B (Ok done) i bytes = form.Says B i bytes
+LineOf form B (Err refusal) i bytes = bytes ≡ refused_line refusal.reason refusal.line
 
 -- the state with so many lines written
 abbrev pub written : State → ℕ → State
@@ -55,9 +55,9 @@ abbrev pub line_room : ℕ
 line_room = 2048
 
 -- the book of a state is to be sound, unless the text was refused
-abbrev pub Readable : Book → Received → Type 0
-Readable B Received.Fine = Sound B
-Readable B (Received.Refused reason number) = Unit
+abbrev pub Readable : Book → Result Unit Refusal → Type 0
+Readable B (Ok done) = Sound B
+Readable B (Err refusal) = Unit
 
 -- 8, then 7. A refused text has no book: of it only 7
 abbrev pub step_checks : State → List ℕ → List Check
@@ -97,7 +97,7 @@ Next form before after buffer buffered =
 -- ---- a page
 
 -- the lines from i on, up to the one before j, one behind the other; each was begun with at least a line's room left of so many places
-pub data Lines (form : Form) (B : Book) (received : Received) (places i : ℕ) : ℕ → List ℕ → Type 0 where
+pub data Lines (form : Form) (B : Book) (received : Result Unit Refusal) (places i : ℕ) : ℕ → List ℕ → Type 0 where
   none : Lines form B received places i i []
   then : {j : ℕ} {bytes : List ℕ} (more : List ℕ) → Lines form B received places i j bytes → length bytes + line_room ≤ places
       → j < lines_of form B received → LineOf form B received j more → Lines form B received places i (suc j) (bytes ++ more)

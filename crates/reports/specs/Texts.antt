@@ -4,12 +4,12 @@
 --
 -- A text has one report, whichever book was read from it (crate readings: `report_determined`), so that each line may be said of some book. Of forests a text
 -- leaves a choice: a certificate is of one book, and that book stands outside its lines.
-use Rattle.std.specs.Prelude.{◌≡◌, ◌⊎◌, List, [], ◌∷◌, ℕ, ◌+◌, ◌<◌, length, get_or}
+use Rattle.std.specs.Prelude.{◌≡◌, ◌⊎◌, List, [], ◌∷◌, ℕ, ◌+◌, ◌<◌, length, get_or, Result}
 use Rattle.rule.specs.declared.Book.{Book}
 use Rattle.rule.specs.declared.Reason.{Reason}
 use Rattle.rule.specs.Sets.{below}
 use Rattle.rule.specs.Books.{design_of, kept_of}
-use Rattle.reports.specs.declared.Received.{Received}
+use Rattle.text.specs.declared.Refusal.{Refusal}
 use Rattle.text.specs.Lines.{line}
 use Rattle.text.specs.Faults.{RefusedAt}
 use Rattle.reports.specs.Keys.{key_forest}
@@ -28,14 +28,14 @@ Report text i bytes =
     ((B : Book) × Reads text B × ReportLine (design_of B) (kept_of B) (below (kept_of B)) i bytes) ⊎ OnlyRefused text i bytes
 
 -- line i of a certificate, where this book and this answer were received of the text
-abbrev pub CertificateOf : Book → Received → ℕ → List ℕ → Type 0
+abbrev pub CertificateOf : Book → Result Unit Refusal → ℕ → List ℕ → Type 0
 CertificateOf B received i bytes =
     ReceivedSays (CertificateLine B (below (kept_of B)) i bytes) (λ reason number. (i ≡ 0) × (bytes ≡ refused_line reason number)) received
 
 -- the lines are a certificate of the text, whole: something was received of it, a book or a refusal, and all lines are of that
 pub record Certificate (text : List ℕ) (lines : List (List ℕ)) : Type 0 where
   pub book : Book
-  pub received : Received
+  pub received : Result Unit Refusal
   pub is_received : Receives text book received
   pub so_many : length lines ≡ lines_of certificate book received
   pub each : (i : ℕ) → i < length lines → CertificateOf book received i (get_or lines i [])

@@ -16,7 +16,8 @@ use lib.Seq.{length-take-le, take-append_seam, drop-append_seam}
 use Rattle.rule.specs.declared.Book.{Book}
 use Rattle.rule.specs.Sets.{Is, In, one_if, count, at, numbers}
 use Rattle.rule.specs.Legal.{InCircuit, Circuit}
-use Rattle.rule.specs.Books.{Edge, design_of, forest_of, kept_of, offered, plus, next, Sound}
+use Rattle.rule.specs.declared.Edge.{Edge}
+use Rattle.rule.specs.Books.{design_of, forest_of, kept_of, offered, plus, next, Sound}
 use Rattle.rule.specs.Calls.{ImpliesIt}
 use Rattle.rule.proofs.Tests.{is_false}
 use Rattle.rule.proofs.Counting.{count_mono, length_numbers}

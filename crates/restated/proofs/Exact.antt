@@ -11,7 +11,7 @@ use Prim.Native.Nat.{ℕ}
 use Rattle.rule.specs.declared.Book.{Book}
 use Rattle.rule.specs.declared.Answer.{Answer}
 use Rattle.rule.specs.declared.Answer.TheVariants.{Kept, Implied, Refused}
-use Rattle.rule.specs.Books.{Edge}
+use Rattle.rule.specs.declared.Edge.{Edge}
 use Rattle.rule.specs.Calls.{KeepsIt, ImpliesIt, Offer, Question}
 use Rattle.rule.proofs.Passed.{Asked, passed_offer, passed_question}
 use Rattle.rule.proofs.Outcomes.{AnswersAgree}

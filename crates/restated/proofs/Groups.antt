@@ -12,8 +12,8 @@ use Prim.Native.Nat.{ℕ, zero, suc, ◌+◌, ◌*◌, ◌-◌, ◌<◌}
 use native.Mathlib.Omega.{arith}
 use lib.ListN.{length, get_or, take}
 use lib.Seq.{length-take-le, get_or-take}
+use Rattle.std.specs.Prelude.{Ok}
 use Rattle.rule.specs.declared.Book.{Book}
-use Rattle.rule.specs.declared.Done.{Done}
 use Rattle.rule.specs.Sets.{In, at, numbers}
 use Rattle.rule.specs.Figures.{Share, InGroup, GroupLead}
 use Rattle.rule.specs.Books.{design_of, kept_of, Sound}
@@ -95,7 +95,7 @@ group_number : (n : ℕ) (listed : List ℕ) (i : ℕ) → i < n → at (take n 
 group_number n listed i h = at_suc (take n listed) i ∙ get_or-take n listed i 0 h
 
 module _ (B : Book) (list listed : List ℕ) where
-  grouped_exact : Grouped B list listed Done.Fine → ExactGroups B list listed
+  grouped_exact : Grouped B list listed (Ok tt) → ExactGroups B list listed
   unfolding design_of
   grouped_exact g =
       let sound : Sound B = g.0.0 in
@@ -109,7 +109,7 @@ module _ (B : Book) (list listed : List ℕ) where
         past = g.2;
       }
 
-  exact_grouped : Pass (groups_checks B list) → ExactGroups B list listed → Grouped B list listed Done.Fine
+  exact_grouped : Pass (groups_checks B list) → ExactGroups B list listed → Grouped B list listed (Ok tt)
   unfolding design_of
   exact_grouped checked e = (
     checked,
@@ -124,5 +124,5 @@ module _ (B : Book) (list listed : List ℕ) where
           subst (GroupLead (design_of B) (kept_of B) (suc i)) (sym (group_number B.n listed i (omega arith)))
           ((leads_iff B checked.0 (suc i) _ h).1 (e.leads i (omega arith)))
 
-  pub groups_iff : Grouped B list listed Done.Fine ↔ (Pass (groups_checks B list) × ExactGroups B list listed)
+  pub groups_iff : Grouped B list listed (Ok tt) ↔ (Pass (groups_checks B list) × ExactGroups B list listed)
   groups_iff = (λ g. (g.0, grouped_exact g), λ p. exact_grouped p.0 p.1)

@@ -15,7 +15,8 @@ use lib.ListN.{get_or}
 use Rattle.rule.specs.declared.Book.{Book}
 use Rattle.rule.specs.Sets.{◌and◌, isnt, ◌=?◌, ◌<?◌, Set, In, ◌with◌, ◌without◌, at}
 use Rattle.rule.specs.Legal.{Design, Legal, Keeps}
-use Rattle.rule.specs.Books.{Edge, design_of, forest_of, kept_of, offered, plus, next, Sound}
+use Rattle.rule.specs.declared.Edge.{Edge}
+use Rattle.rule.specs.Books.{design_of, forest_of, kept_of, offered, plus, next, Sound}
 use Rattle.rule.proofs.Tests.{same_test, and_make, and_l, and_r, isnt_make, isnt_not, eq_of, eq_is, lt_of, lt_is, put_same, put_other, without_old, without_ne, without_make}
 use Rattle.theory.proofs.Legal.Kept.{kept_make, kept_has}
 use Rattle.theory.proofs.Laws.Plus.{plus_one, plus_other, plus_red, new_one, new_other, new_red}

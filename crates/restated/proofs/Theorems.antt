@@ -11,14 +11,15 @@ use mathlib.Core.Logic.{◌⊎◌, ◌↔◌}
 use mathlib.Core.List.{List}
 use Prim.Native.Nat.{ℕ, ◌≤◌}
 use lib.ListN.{length}
+use Rattle.std.specs.Prelude.{Ok}
 use Rattle.rule.specs.declared.Book.{Book}
 use Rattle.rule.specs.declared.Answer.{Answer}
 use Rattle.rule.specs.declared.Answer.TheVariants.{Implied}
-use Rattle.rule.specs.declared.Done.{Done}
 use Rattle.rule.specs.Sets.{Set, In}
 use Rattle.rule.specs.Legal.{Design, Ends, Legal, Keeps, Circuit}
 use Rattle.rule.specs.Figures.{InGroup}
-use Rattle.rule.specs.Books.{Edge, design_of, kept_of, offered, next, Sound}
+use Rattle.rule.specs.declared.Edge.{Edge}
+use Rattle.rule.specs.Books.{design_of, kept_of, offered, next, Sound}
 use Rattle.rule.specs.Reasons.{Pass, circuit_room, groups_checks}
 use Rattle.rule.specs.Calls.{ImpliesIt, Offer, Question, Grouped}
 use Rattle.rule.proofs.Outcomes.{AnswersAgree}
@@ -120,5 +121,5 @@ group_in_lists = Groups.together_iff
 
 -- `groups::groups`, where it is not refused: the lent list has for each body the smallest that is together with it, and past them what it held. The
 -- contract says that and nothing else
-pub groups_exactly : (B : Book) (list listed : List ℕ) → (Grouped B list listed Done.Fine ↔ (Pass (groups_checks B list) × ExactGroups B list listed))
+pub groups_exactly : (B : Book) (list listed : List ℕ) → (Grouped B list listed (Ok tt) ↔ (Pass (groups_checks B list) × ExactGroups B list listed))
 groups_exactly = Groups.groups_iff

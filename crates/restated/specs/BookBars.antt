@@ -7,7 +7,7 @@ use Rattle.std.specs.Prelude.{◌≡◌, ◌⊎◌, ◌↔◌, Bool, true, false
 use Rattle.rule.specs.declared.Book.{Book}
 use Rattle.rule.specs.declared.Answer.{Answer}
 use Rattle.rule.specs.declared.Answer.TheVariants.{Kept, Implied, Refused}
-use Rattle.rule.specs.Books.{Edge}
+use Rattle.rule.specs.declared.Edge.{Edge}
 use Rattle.restated.specs.Bars.{Bar, Member, DifferentBodies, HoldInside, LegalBars}
 
 -- ---- the bars of a book

@@ -9,19 +9,19 @@ use mathlib.Core.Path.{◌≡◌, refl, sym, ap, ap₂, ◌∙◌, subst}
 use mathlib.Core.Logic.Iff
 use mathlib.Core.Logic.{◌↔◌}
 use mathlib.Core.List.{List, ◌++◌}
+use Rattle.std.specs.Prelude.{Result, Ok, Err}
 use Prim.Native.Nat.{ℕ, ◌≤◌}
 use lib.ListN.{length, drop, take-append-drop}
 use Rattle.rule.specs.declared.Book.{Book}
 use Rattle.rule.specs.declared.Reason.{Reason}
+use Rattle.rule.specs.declared.Verdict.{Verdict}
 use Rattle.rule.specs.declared.Answer.{Answer}
 use Rattle.rule.specs.declared.Answer.TheVariants.{Kept, Implied, Refused}
-use Rattle.rule.specs.declared.Done.{Done}
-use Rattle.rule.specs.declared.Figure.{Figure}
-use Rattle.rule.specs.declared.Judged.{Judged}
 use Rattle.rule.specs.Sets.{In}
 use Rattle.rule.specs.Legal.{Keeps}
 use Rattle.rule.specs.Figures.{freedom, dropped}
-use Rattle.rule.specs.Books.{Edge, design_of, forest_of, kept_of, offered, next}
+use Rattle.rule.specs.declared.Edge.{Edge}
+use Rattle.rule.specs.Books.{design_of, forest_of, kept_of, offered, next}
 use Rattle.rule.specs.Reasons.{Check, Pass, Fail, opening_checks, question_checks, offer_checks, book_checks, groups_checks}
 use Rattle.rule.specs.Calls.{ImpliesIt, OfferKept, OfferImplied, Offer, Question, Open, Freedom, Dropped, Judge, Grouped}
 use Rattle.rule.proofs.Tests.{in_split}
@@ -38,12 +38,12 @@ question_single B given list = (place_single B, (nothing_single, (nothing_single
 
 -- ---- opening
 
-pub open_determined : (a b n : ℕ) (book other : Book) (x y : Done) → Open a b n book x → Open a b n other y → (book ≡ other) × (x ≡ y)
-open_determined a b n book other Done.Fine Done.Fine p q = (p.1 ∙ sym q.1, refl)
-open_determined a b n book other Done.Fine (Done.Refused r) p q = absurd (pass_not_fail (opening_checks a b n) r p.0 q.0)
-open_determined a b n book other (Done.Refused r) Done.Fine p q = absurd (pass_not_fail (opening_checks a b n) r q.0 p.0)
-open_determined a b n book other (Done.Refused r) (Done.Refused s) p q =
-    (p.1 ∙ sym q.1, ap Done.Refused (fail_determined (opening_checks a b n) (nothing_single, (nothing_single, tt)) p.0 q.0))
+pub open_determined : (a b n : ℕ) (book other : Book) (x y : Result Unit Reason) → Open a b n book x → Open a b n other y → (book ≡ other) × (x ≡ y)
+open_determined a b n book other (Ok _) (Ok _) p q = (p.1 ∙ sym q.1, refl)
+open_determined a b n book other (Ok _) (Err r) p q = absurd (pass_not_fail (opening_checks a b n) r p.0 q.0)
+open_determined a b n book other (Err r) (Ok _) p q = absurd (pass_not_fail (opening_checks a b n) r q.0 p.0)
+open_determined a b n book other (Err r) (Err s) p q =
+    (p.1 ∙ sym q.1, ap Err (fail_determined (opening_checks a b n) (nothing_single, (nothing_single, tt)) p.0 q.0))
 
 -- ---- an offer
 
@@ -172,35 +172,35 @@ book_single : (B : Book) → Single (book_checks B)
 book_single B = (place_single B, tt)
 
 -- two figures by one definition
-figure_determined : (B : Book) (number : ℕ) (P : Figure → Type 0) → ((c : ℕ) → P (Figure.Number c) → Pass (book_checks B) × (c ≡ number))
-    → ((r : Reason) → P (Figure.Refused r) → Fail (book_checks B) r) → (x y : Figure) → P x → P y → x ≡ y
-figure_determined B number P n f (Figure.Number c) (Figure.Number e) p q = ap Figure.Number ((n c p).1 ∙ sym (n e q).1)
-figure_determined B number P n f (Figure.Number c) (Figure.Refused r) p q = absurd (pass_not_fail (book_checks B) r (n c p).0 (f r q))
-figure_determined B number P n f (Figure.Refused r) (Figure.Number e) p q = absurd (pass_not_fail (book_checks B) r (n e q).0 (f r p))
-figure_determined B number P n f (Figure.Refused r) (Figure.Refused s) p q =
-    ap Figure.Refused (fail_determined (book_checks B) (book_single B) (f r p) (f s q))
+figure_determined : (B : Book) (number : ℕ) (P : Result ℕ Reason → Type 0) → ((c : ℕ) → P (Ok c) → Pass (book_checks B) × (c ≡ number))
+    → ((r : Reason) → P (Err r) → Fail (book_checks B) r) → (x y : Result ℕ Reason) → P x → P y → x ≡ y
+figure_determined B number P n f (Ok c) (Ok e) p q = ap Ok ((n c p).1 ∙ sym (n e q).1)
+figure_determined B number P n f (Ok c) (Err r) p q = absurd (pass_not_fail (book_checks B) r (n c p).0 (f r q))
+figure_determined B number P n f (Err r) (Ok e) p q = absurd (pass_not_fail (book_checks B) r (n e q).0 (f r p))
+figure_determined B number P n f (Err r) (Err s) p q =
+    ap Err (fail_determined (book_checks B) (book_single B) (f r p) (f s q))
 
-pub freedom_determined : (B : Book) (x y : Figure) → Freedom B x → Freedom B y → x ≡ y
+pub freedom_determined : (B : Book) (x y : Result ℕ Reason) → Freedom B x → Freedom B y → x ≡ y
 freedom_determined B = figure_determined B (freedom (design_of B) (kept_of B)) (Freedom B) (λ c p. p) (λ r p. p)
 
-pub dropped_determined : (B : Book) (x y : Figure) → Dropped B x → Dropped B y → x ≡ y
+pub dropped_determined : (B : Book) (x y : Result ℕ Reason) → Dropped B x → Dropped B y → x ≡ y
 dropped_determined B = figure_determined B (dropped (design_of B) (kept_of B)) (Dropped B) (λ c p. p) (λ r p. p)
 
-pub judge_determined : (B : Book) (x y : Judged) → Judge B x → Judge B y → x ≡ y
-judge_determined B (Judged.Verdict v) (Judged.Verdict w) p q = ap Judged.Verdict (p.1 ∙ sym q.1)
-judge_determined B (Judged.Verdict v) (Judged.Refused r) p q = absurd (pass_not_fail (book_checks B) r p.0 q)
-judge_determined B (Judged.Refused r) (Judged.Verdict w) p q = absurd (pass_not_fail (book_checks B) r q.0 p)
-judge_determined B (Judged.Refused r) (Judged.Refused s) p q = ap Judged.Refused (fail_determined (book_checks B) (book_single B) p q)
+pub judge_determined : (B : Book) (x y : Result Verdict Reason) → Judge B x → Judge B y → x ≡ y
+judge_determined B (Ok v) (Ok w) p q = ap Ok (p.1 ∙ sym q.1)
+judge_determined B (Ok v) (Err r) p q = absurd (pass_not_fail (book_checks B) r p.0 q)
+judge_determined B (Err r) (Ok w) p q = absurd (pass_not_fail (book_checks B) r q.0 p)
+judge_determined B (Err r) (Err s) p q = ap Err (fail_determined (book_checks B) (book_single B) p q)
 
-pub grouped_determined : (B : Book) (list listed lines : List ℕ) (x y : Done) → Grouped B list listed x → Grouped B list lines y
+pub grouped_determined : (B : Book) (list listed lines : List ℕ) (x y : Result Unit Reason) → Grouped B list listed x → Grouped B list lines y
     → (listed ≡ lines) × (x ≡ y)
-grouped_determined B list listed lines Done.Fine Done.Fine p q = (
+grouped_determined B list listed lines (Ok _) (Ok _) p q = (
   sym (take-append-drop B.n listed)
       ∙ ap₂ (λ (s t : List ℕ). s ++ t) (groups_determined p.1 q.1) (p.2 ∙ sym q.2)
       ∙ take-append-drop B.n lines,
   refl,
 )
-grouped_determined B list listed lines Done.Fine (Done.Refused r) p q = absurd (pass_not_fail (groups_checks B list) r p.0 q.0)
-grouped_determined B list listed lines (Done.Refused r) Done.Fine p q = absurd (pass_not_fail (groups_checks B list) r q.0 p.0)
-grouped_determined B list listed lines (Done.Refused r) (Done.Refused s) p q =
-    (p.1 ∙ sym q.1, ap Done.Refused (fail_determined (groups_checks B list) (place_single B, (nothing_single, tt)) p.0 q.0))
+grouped_determined B list listed lines (Ok _) (Err r) p q = absurd (pass_not_fail (groups_checks B list) r p.0 q.0)
+grouped_determined B list listed lines (Err r) (Ok _) p q = absurd (pass_not_fail (groups_checks B list) r q.0 p.0)
+grouped_determined B list listed lines (Err r) (Err s) p q =
+    (p.1 ∙ sym q.1, ap Err (fail_determined (groups_checks B list) (place_single B, (nothing_single, tt)) p.0 q.0))

@@ -8,7 +8,8 @@ use mathlib.Core.List.{List}
 use Prim.Native.Nat.{ℕ, ◌≤◌, ◌<◌}
 use lib.ListN.{length}
 use Rattle.rule.specs.declared.Book.{Book}
-use Rattle.rule.specs.Books.{Edge, EdgeRange, capacity, Sound}
+use Rattle.rule.specs.declared.Edge.{Edge}
+use Rattle.rule.specs.Books.{EdgeRange, capacity, Sound}
 use Rattle.rule.specs.Reasons.{Pass, circuit_room, question_checks, offer_checks}
 
 -- the book is sound, the edge fits it, and the lent list has room for a circuit

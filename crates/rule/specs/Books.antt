@@ -1,20 +1,15 @@
 -- A book as a design, and when it is sound.
 --
--- In order: an edge as it is given; the edges, the design, the forests and the kept edges of a book; the ranges of document 01, "Sizes"; the
+-- In order: an edge as it is given (the struct `Edge` of src/lib.rt); the edges, the design, the forests and the kept edges of a book; the ranges of document 01, "Sizes"; the
 -- rule of each place (0 the head, e edge e); sound, and the first place that breaks a rule; grown; a design with one edge more.
 use Rattle.std.specs.Prelude.{◌≡◌, ◌⊎◌, ◌≢◌, ℕ, zero, suc, ◌≤◌, ◌<◌}
 use Rattle.rule.specs.declared.Book.{Book}
+use Rattle.rule.specs.declared.Edge.{Edge}
 use Rattle.rule.specs.Sets.{◌=?◌, Set, In, put, below, at}
 use Rattle.rule.specs.Legal.{Design, Grown}
 use Rattle.rule.specs.Forests.{Chain, in_forest, kept_in, Permitted}
 
 -- ---- an edge
-
--- an edge as it is given: its two bodies, and its colour
-pub record Edge : Type 0 where
-  pub one : ℕ
-  pub other : ℕ
-  pub colour : ℕ
 
 -- the edge between u and v of this colour
 abbrev pub the_edge : (u v colour : ℕ) → Edge

@@ -3,17 +3,17 @@
 -- In order: a book of zeros; opening; an offer; a question; freedom, dropped and the verdict; the group list. Each goes through the cases of its answer
 -- as Answers.antt does.
 -- The base leaves one thing open, the choice of forests and with it moved: an offer may choose any permitted forests.
-use Rattle.std.specs.Prelude.{◌≡◌, ◌↔◌, List, ◌++◌, ℕ, ◌≤◌, length, set, take, drop, replicate}
+use Rattle.std.specs.Prelude.{◌≡◌, ◌↔◌, Result, List, ◌++◌, ℕ, ◌≤◌, length, set, take, drop, replicate}
 use Rattle.rule.specs.declared.Book.{Book}
 use Rattle.rule.specs.declared.Answer.{Answer}
-use Rattle.rule.specs.declared.Done.{Done}
-use Rattle.rule.specs.declared.Figure.{Figure}
-use Rattle.rule.specs.declared.Judged.{Judged}
+use Rattle.rule.specs.declared.Reason.{Reason}
+use Rattle.rule.specs.declared.Verdict.{Verdict}
 use Rattle.rule.specs.Sets.{In}
 use Rattle.rule.specs.Legal.{Keeps, Implies, Circuit}
 use Rattle.rule.specs.Forests.{Arranged, moved}
 use Rattle.rule.specs.Figures.{freedom, dropped, verdict, Groups}
-use Rattle.rule.specs.Books.{Edge, design_of, forest_of, kept_of, offered, next}
+use Rattle.rule.specs.declared.Edge.{Edge}
+use Rattle.rule.specs.Books.{design_of, forest_of, kept_of, offered, next}
 use Rattle.rule.specs.Reasons.{Pass, FailBy, opening_checks, question_checks, offer_checks, book_checks, groups_checks}
 use Rattle.rule.specs.Answers.{AnswerSays, DoneSays, FigureSays, JudgedSays}
 
@@ -53,7 +53,7 @@ Filled answer list listed = listed ≡ answer ++ drop (length answer) list
 
 -- ---- opening
 
-abbrev pub Open : (a b n : ℕ) → Book → Done → Type 0
+abbrev pub Open : (a b n : ℕ) → Book → Result Unit Reason → Type 0
 Open a b n book =
     DoneSays (Pass (opening_checks a b n) × (book ≡ new_book a b n))
     (λ number place. FailBy (opening_checks a b n) number place × (book ≡ zero_book))
@@ -118,18 +118,18 @@ Question B given list listed =
 
 -- ---- freedom, dropped, verdict
 
-abbrev pub Freedom : Book → Figure → Type 0
+abbrev pub Freedom : Book → Result ℕ Reason → Type 0
 Freedom B = FigureSays (λ figure. Pass (book_checks B) × (figure ≡ freedom (design_of B) (kept_of B))) (FailBy (book_checks B))
 
-abbrev pub Dropped : Book → Figure → Type 0
+abbrev pub Dropped : Book → Result ℕ Reason → Type 0
 Dropped B = FigureSays (λ figure. Pass (book_checks B) × (figure ≡ dropped (design_of B) (kept_of B))) (FailBy (book_checks B))
 
-abbrev pub Judge : Book → Judged → Type 0
+abbrev pub Judge : Book → Result Verdict Reason → Type 0
 Judge B = JudgedSays (λ judged. Pass (book_checks B) × (judged ≡ verdict (design_of B) (kept_of B))) (FailBy (book_checks B))
 
 -- ---- the group list
 
-abbrev pub Grouped : Book → (list listed : List ℕ) → Done → Type 0
+abbrev pub Grouped : Book → (list listed : List ℕ) → Result Unit Reason → Type 0
 Grouped B list listed =
     DoneSays
     (Pass (groups_checks B list)

@@ -6,7 +6,8 @@ use Rattle.rule.specs.declared.Book.{Book}
 use Rattle.rule.specs.declared.Reason.{Reason}
 use Rattle.rule.specs.declared.Reason.TheVariants.{Profile, Bodies, Body, SameBody, Colour, Full, Short, Unsound, Line}
 use Rattle.rule.specs.Sets.{In}
-use Rattle.rule.specs.Books.{Edge, ProfileRange, BodiesRange, ColourRange, capacity, Sound, FirstBad}
+use Rattle.rule.specs.declared.Edge.{Edge}
+use Rattle.rule.specs.Books.{ProfileRange, BodiesRange, ColourRange, capacity, Sound, FirstBad}
 
 abbrev pub number_of : Reason → ℕ
 number_of Profile = 1

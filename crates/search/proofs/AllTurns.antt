@@ -5,6 +5,7 @@ use mathlib.Core.Path.{◌≡◌, refl, sym, ap, ap₂, ◌∙◌, subst}
 use mathlib.Core.Logic.{◌≢◌}
 use mathlib.Core.Bool.{Bool, cond}
 use mathlib.Core.List.{List}
+use Rattle.std.specs.Prelude.{Some, None}
 use Prim.Native.Nat.{ℕ, suc, ◌+◌, ◌-◌, ◌≤◌, ◌<◌}
 use native.Mathlib.Numerals.{add-one}
 use native.Mathlib.Omega.{arith}
@@ -12,15 +13,15 @@ use lib.ListN.{get_or}
 use Rattle.rule.specs.Sets.{◌=?◌, In, at}
 use Rattle.rule.specs.Legal.{Design, k}
 use Rattle.rule.specs.Forests.{limit}
-use Rattle.rule.specs.Books.{Edge, the_edge}
+use Rattle.rule.specs.declared.Edge.{Edge}
+use Rattle.rule.specs.Books.{the_edge}
 use Rattle.rule.proofs.Tests.{is_false, lt_of, lt_is}
 use Rattle.theory.specs.Search.{Waiting, edge_at, Result, and_then, pick_result, try_forests, turn, turns, search}
 use Rattle.theory.specs.Search.Result.{found, going}
 use Rattle.theory.proofs.Search.Reached.{size}
 use Rattle.theory.proofs.Search.Image.{size_most}
-use Rattle.reaching.specs.declared.Tried.TheVariants.{Free, Waits}
-use Rattle.search.specs.declared.Outcome.TheVariants.{Found, Stuck}
-use Rattle.reaching.specs.Trying.{Tells, Trying, After}
+use Rattle.reaching.specs.Trying.{Comes, Tells, Trying, After}
+use Rattle.search.specs.declared.End.{End}
 use Rattle.search.specs.Given.{IsEdge, Given}
 use Rattle.search.specs.Answers.{Turned, Searched}
 use Rattle.reaching.proofs.Held.{held_edge, held_few}
@@ -52,16 +53,16 @@ module _ {a k' : ℕ} {ones others colours forests root way edge : List ℕ} (g 
   before_suc q = refl
 
   -- the search has ended
-  pub ended : {queue from seen : List ℕ} {p i : ℕ} (q : ℕ) → q ≤ g.d.m → Turned g queue from seen q (Found p i) → Searched g queue from (Found p i)
+  pub ended : {queue from seen : List ℕ} (n : ℕ) {e : End} (q : ℕ) → q ≤ g.d.m → Turned g queue from seen q n (Some e) → Searched g queue from n (Some e)
   unfolding search
-  ended {p = p} {i = i} q h s =
+  ended n {e = e} q h s =
       record {
         waiting = s.waiting;
-        is = stays before (turn g.d g.forest) before_suc (found p i s.waiting) q g.d.m h (λ _ _. refl) s.is;
+        is = stays before (turn g.d g.forest) before_suc (found e.place e.forest s.waiting) q g.d.m h (λ _ _. refl) s.is;
         holds = s.holds.holds;
       }
 
-  module _ (q : ℕ) {queue from seen : List ℕ} {n : ℕ} (s : Turned g queue from seen q (Stuck n)) where
+  module _ (q : ℕ) {queue from seen : List ℕ} {n : ℕ} (s : Turned g queue from seen q n None) where
     pub all_edges : n ≤ g.d.m
     all_edges = omega (arith, s.holds.0, size_most g.d g.forest g.d.m s.waiting s.holds.1.sound)
 
@@ -73,7 +74,7 @@ module _ {a k' : ℕ} {ones others colours forests root way edge : List ℕ} (g 
     queue_at p h = held_edge s.holds.1.holds p (omega (arith, s.holds.0))
 
     -- all have had their turns
-    pub all_over : n ≤ q → q ≤ g.d.m → Searched g queue from (Stuck n)
+    pub all_over : n ≤ q → q ≤ g.d.m → Searched g queue from n None
     unfolding search
     all_over over here =
         record {
@@ -119,12 +120,12 @@ module _ {a k' : ℕ} {ones others colours forests root way edge : List ℕ} (g 
         tried : before (q + 1) ≡ try_forests g.d g.forest q x last s.waiting
         tried = this_turn ∙ ap (λ (j : ℕ). try_forests g.d g.forest q x j s.waiting) limited
 
-        pub turn_ends : {queue' from' seen' : List ℕ} {f : ℕ}
-            → Tells (After (has_turn e) queue' from' seen') q (try_forests g.d g.forest q x last s.waiting) (Free f) → Turned g queue' from' seen' (q + 1) (Found q f)
-        turn_ends b = record { waiting = b.waiting; is = tried ∙ b.is; holds = b.holds.state }
+        pub turn_ends : {queue' from' seen' : List ℕ} {f : ℕ} (m : ℕ)
+            → Comes (After (has_turn e) queue' from' seen') (found q f) (try_forests g.d g.forest q x last s.waiting) → Turned g queue' from' seen' (q + 1) m (Some (record { place = q; forest = f }))
+        turn_ends m b = record { waiting = b.waiting; is = tried ∙ b.is; holds = b.holds.state }
 
         pub turn_goes : {queue' from' seen' : List ℕ} {m : ℕ}
-            → Tells (After (has_turn e) queue' from' seen') q (try_forests g.d g.forest q x last s.waiting) (Waits m) → Turned g queue' from' seen' (q + 1) (Stuck m)
+            → Tells (After (has_turn e) queue' from' seen') q (try_forests g.d g.forest q x last s.waiting) m None → Turned g queue' from' seen' (q + 1) m None
         turn_goes b = record { waiting = b.waiting; is = tried ∙ b.is; holds = (b.holds.0, b.holds.1.state) }
 
       -- behind the new edge wait earlier ones

@@ -3,27 +3,46 @@
 use mathlib.Core.Path.{◌≡◌, refl, sym, ap, ◌∙◌, subst}
 use mathlib.Core.Bool.{cond}
 use mathlib.Core.List.{List, [], ◌∷◌}
+use Rattle.std.specs.Prelude.{Option, Some, None}
 use Prim.Native.Nat.{ℕ, ◌-◌, ◌<◌}
 use native.Mathlib.Omega.{arith}
 use lib.ListN.{length, set, replicate, length-set}
 use lib.Seq.{take-suc-set}
 use Rattle.rule.specs.Sets.{◌=?◌, In}
 use Rattle.rule.specs.Forests.{limit}
-use Rattle.rule.specs.Books.{Edge}
+use Rattle.rule.specs.declared.Edge.{Edge}
 use Rattle.rule.proofs.Tests.{is_false, eq_of}
 use Rattle.theory.specs.Search.{edge_at, begin, turns, try_forests}
 use Rattle.theory.proofs.Search.Reached.{begin_reached}
 use Rattle.words.specs.Bits.{bit}
 use Rattle.words.proofs.Bits.{bit_zero}
 use Rattle.tables.specs.Tables.{slot, filled}
-use Rattle.reaching.specs.declared.Tried.{Tried}
-use Rattle.reaching.specs.declared.Tried.TheVariants.{Free, Waits}
 use Rattle.reaching.specs.Trying.{Tells, Trying, After}
-use Rattle.search.specs.declared.Outcome.TheVariants.{Found, Stuck}
 use Rattle.search.specs.Given.{IsEdge, Sought}
 use Rattle.search.specs.Answers.{Turned}
 use Rattle.reaching.proofs.Bits.{zeros_at}
 use Rattle.search.proofs.AllTurns.{limit_is, has_turn, turn_ends, turn_goes}
+
+-- the numbers of the profile as they are read
+abbrev pub sought_for : {a k a' k' : ℕ} {is : Edge} {number : ℕ} {ones others colours forests root way edge : List ℕ} → a' ≡ a → k' ≡ k
+    → Sought a k is number ones others colours forests root way edge → Sought a' k' is number ones others colours forests root way edge
+sought_for qa qk s =
+    let g = s.given in
+    record {
+      given =
+          record {
+            d = g.d;
+            forest = g.forest;
+            who = g.who;
+            size = g.size;
+            setting = g.setting;
+            for_red = g.for_red ∙ sym qa;
+            for_black = g.for_black ∙ sym qk;
+            old = g.old;
+          };
+      last = s.last;
+      new = s.new;
+    }
 
 module _ {a k : ℕ} {is : Edge} {number : ℕ} {ones others colours forests root way edge : List ℕ} (s : Sought a k is number ones others colours forests root way edge) where
   -- the new edge is in no slot
@@ -31,7 +50,7 @@ module _ {a k : ℕ} {is : Edge} {number : ℕ} {ones others colours forests roo
   not_new f j h l q =
       omega (arith, h.low, ((s.given.setting.tabled.slots f h).edge_in j l).1, ap s.given.forest (q ∙ s.last), s.new.stands)
 
-  begun : (queue from : List ℕ) → length queue ≡ 379 → length from ≡ 379 → Turned s.given (set queue 0 number) (set from 0 0) (replicate 6 0) 0 (Stuck 1)
+  begun : (queue from : List ℕ) → length queue ≡ 379 → length from ≡ 379 → Turned s.given (set queue 0 number) (set from 0 0) (replicate 6 0) 0 1 None
   unfolding turns begin
   begun queue from lq lf =
       record {
@@ -58,7 +77,7 @@ module _ {a k : ℕ} {is : Edge} {number : ℕ} {ones others colours forests roo
   -- ---- the turn of the new edge
 
   module _ (queue from : List ℕ) (lq : length queue ≡ 379) (lf : length from ≡ 379) {last : ℕ} (is_last : last ≡ cond (is.colour =? 1) a k) where
-    abbrev alone : Turned s.given (set queue 0 number) (set from 0 0) (replicate 6 0) 0 (Stuck 1)
+    abbrev alone : Turned s.given (set queue 0 number) (set from 0 0) (replicate 6 0) 0 1 None
     alone = begun queue from lq lf
 
     new_first : IsEdge s.given.d s.given.forest (edge_at alone.waiting 0) is 0
@@ -78,13 +97,13 @@ module _ {a k : ℕ} {is : Edge} {number : ℕ} {ones others colours forests roo
     first_asks = (new_tries, (limited, new_first.stands))
 
     -- what trying its forests tells of any design
-    abbrev pub FirstTold : (queue' from' seen' : List ℕ) → Tried → Type 0
-    FirstTold queue' from' seen' r =
+    abbrev pub FirstTold : (queue' from' seen' : List ℕ) (n : ℕ) → Option ℕ → Type 0
+    FirstTold queue' from' seen' n r =
         (t : Tries) → limit t.d t.x ≡ last → t.forest t.x ≡ 0
-        → Tells (After t queue' from' seen') 0 (try_forests t.d t.forest 0 t.x last t.w) r
+        → Tells (After t queue' from' seen') 0 (try_forests t.d t.forest 0 t.x last t.w) n r
 
-    pub first_ends : (queue' from' seen' : List ℕ) (f : ℕ) → FirstTold queue' from' seen' (Free f) → Turned s.given queue' from' seen' 1 (Found 0 f)
-    first_ends queue' from' seen' f told = turn_ends s.given 0 alone (omega arith) new_first limited (told new_tries limited new_first.stands)
+    pub first_ends : (queue' from' seen' : List ℕ) (n f : ℕ) → FirstTold queue' from' seen' n (Some f) → Turned s.given queue' from' seen' 1 n (Some (record { place = 0; forest = f }))
+    first_ends queue' from' seen' n f told = turn_ends s.given 0 alone (omega arith) new_first limited n (told new_tries limited new_first.stands)
 
-    pub first_goes : (queue' from' seen' : List ℕ) (n : ℕ) → FirstTold queue' from' seen' (Waits n) → Turned s.given queue' from' seen' 1 (Stuck n)
+    pub first_goes : (queue' from' seen' : List ℕ) (n : ℕ) → FirstTold queue' from' seen' n None → Turned s.given queue' from' seen' 1 n None
     first_goes queue' from' seen' n told = turn_goes s.given 0 alone (omega arith) new_first limited (told new_tries limited new_first.stands)

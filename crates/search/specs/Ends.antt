@@ -5,6 +5,7 @@ use Rattle.rule.specs.Legal.{Design}
 use Rattle.rule.specs.Calls.{Filled}
 use Rattle.theory.specs.Search.{Waiting, from_at, path_to}
 use Rattle.theory.proofs.Search.Reached.{Reached}
+use Rattle.reaching.specs.declared.waiting.Queue.{Queue}
 use Rattle.reaching.specs.Setting.{HoldsWaiting}
 
 -- edges wait up to a place and perhaps behind it, each of them reached from an earlier place
@@ -36,3 +37,11 @@ pub record CircuitListed (w : Waiting) (m n : ℕ) (before after : List ℕ) (le
   pub in_order : Filled (numbers (w.seen without m) m) before after
   pub counts : len ≡ length (numbers (w.seen without m) m)
   pub one_fewer : suc len ≡ n
+
+-- ---- said of a queue
+
+abbrev pub LedIn : (place : ℕ) → Queue → Type 0
+LedIn place Q = Led place Q.edges Q.from
+
+abbrev pub QueuedIn : Queue → Type 0
+QueuedIn Q = Queued Q.size Q.edges

@@ -1,8 +1,12 @@
 -- What a search is given.
-use Rattle.std.specs.Prelude.{◌≡◌, ◌≢◌, List, ℕ}
+use Rattle.std.specs.Prelude.{◌≡◌, ◌≢◌, List, ℕ, ◌+◌}
 use Rattle.rule.specs.Sets.{◌=?◌, In, at}
 use Rattle.rule.specs.Legal.{Design, k}
-use Rattle.rule.specs.Books.{Edge, the_edge}
+use Rattle.rule.specs.declared.Book.{Book}
+use Rattle.rule.specs.declared.Edge.{Edge}
+use Rattle.rule.specs.Books.{the_edge}
+use Rattle.tables.specs.declared.Limits.{Limits}
+use Rattle.tables.specs.declared.Tables.{Tables}
 use Rattle.reaching.specs.Setting.{Setting}
 
 -- edge e of the design is this one, and stands in the forest `own`
@@ -29,3 +33,13 @@ pub record Sought (a k' : ℕ) (sought : Edge) (number : ℕ) (ones others colou
   pub given : Given a k' ones others colours forests root way edge
   pub last : given.d.m ≡ number
   pub new : IsEdge given.d given.forest number sought 0
+
+-- ---- said of a book and the tables
+
+-- with the last forests of its edges, red and black
+abbrev pub GivenFor : Limits → Book → Tables → Type 0
+GivenFor L B T = Given L.red L.black B.ones B.others B.colours B.forests T.labels.root T.way T.edge
+
+-- the numbers of the profile are the book's, and the new edge has the next number
+abbrev pub SoughtIn : Book → Edge → Tables → Type 0
+SoughtIn B edge T = Sought B.a (B.a + B.b) edge (B.count + 1) B.ones B.others B.colours B.forests T.labels.root T.way T.edge

@@ -1,197 +1,125 @@
 // The search for a place of a new edge, the path to it, and the circuit where there is none.
 #![tactic(auto)]
 
-ghost use Rattle.std.specs.Prelude.{◌≡◌, cond, ℕ, ◌+◌, ◌<◌, ◌≤◌, length, get_or};
-ghost use Rattle.rule.specs.Sets.{Is, ◌=?◌, numbers};
-ghost use Rattle.rule.specs.Books.{the_edge};
+ghost use Rattle.std.specs.Prelude.{◌≡◌, None, ℕ, ◌+◌, ◌<◌, ◌≤◌, length, get_or};
+ghost use Rattle.rule.specs.Sets.{Is, numbers};
 ghost use Rattle.reaching.specs.Words.{Coming};
-ghost use Rattle.search.specs.Given.{Given, Sought};
-ghost use Rattle.search.specs.Answers.{Turned, Searched};
-ghost use Rattle.search.specs.Ends.{Led, Traced, Queued, CircuitListed};
+ghost use Rattle.search.specs.Given.{GivenFor, SoughtIn};
+ghost use Rattle.search.specs.Answers.{TurnedIn, SearchedIn, SearchedFor};
+ghost use Rattle.search.specs.Ends.{LedIn, Traced, QueuedIn, CircuitListed};
 ghost use Rattle.search.specs.Marks.{MarksWritten, is_marked, Marked, Markings};
 
-use reaching::Tried;
+use reaching::Queue;
+use rule::{Book, Edge};
+use tables::{Limits, Tables};
 
-// Where the search has come to: its end, at a place of the queue, in a forest where the edge there is free; or no end, and so many edges
-// wait.
+// Where the search has come to its end: at a place of the queue, in a forest in which the edge there is free.
 #[derive(Clone, Copy)]
-pub enum Outcome {
-    Found(usize, usize),
-    Stuck(usize),
-}
-
-fn wide(x: u8) -> usize
-    ensures { result ≡ x }
-{
-    x as usize
-}
-
-// The last forest that an edge of a colour may stand in.
-fn last_of(colour: u8, a: usize, k: usize) -> usize
-    ensures { result ≡ cond (colour =? 1) a k }
-{
-    if colour == 1 { a } else { k }
+pub struct End {
+    pub place: usize,
+    pub forest: usize,
 }
 
 // The turn of the edge that waits at a place, behind the new one.
 fn turn(
-    a: usize,
-    k: usize,
+    book: &Book,
+    limits: Limits,
     place: usize,
-    n: usize,
-    ones: &[u8; 512],
-    others: &[u8; 512],
-    colours: &[u8; 512],
-    forests: &[u8; 512],
-    root: &[u8; 384],
-    way: &[u64; 384],
-    edge: &[u16; 384],
-    queue: &mut [u16; 379],
-    from: &mut [u16; 379],
-    seen: &mut [u64; 6],
-) -> Outcome
-    requires { (g : Given a k ones.now others.now colours.now forests.now root.now way.now edge.now)
-        × ((1 ≤ place) × ((place < n) × Turned g queue.old from.old seen.old place (Outcome.Stuck n))) }
-    ensures { (g : Given a k ones.now others.now colours.now forests.now root.now way.now edge.now)
-        → Turned g queue.old from.old seen.old place (Outcome.Stuck n)
-        → Turned g queue.new from.new seen.new (place + 1) result }
+    tables: &Tables,
+    queue: &mut Queue,
+) -> Option<End>
+    requires { (g : GivenFor limits book.now tables.now)
+        × ((1 ≤ place) × ((place < queue.old.size) × TurnedIn g queue.old place None)) }
+    ensures { (g : GivenFor limits book.now tables.now)
+        → TurnedIn g queue.old place None
+        → TurnedIn g queue.new (place + 1) result }
 {
-    let i = (queue[place] as usize) - 1;
-    let own = wide(forests[i]);
-    let last = last_of(colours[i], a, k);
-    let u = wide(ones[i]);
-    let v = wide(others[i]);
-    let t = reaching::try_forests(
-        own, last, u, v, place, n, root, way, edge, queue, from, seen,
-    );
-    match t {
-        Tried::Free(f) => Outcome::Found(place, f),
-        Tried::Waits(more) => Outcome::Stuck(more),
-    }
+    let i = usize::from(queue.edges[place]) - 1;
+    let own = usize::from(book.forests[i]);
+    let edge = book.edge(i);
+    let last = limits.of(edge.colour);
+    let forest = reaching::try_forests(own, last, edge, place, tables, queue)?;
+    Some(End { place, forest })
 }
 
 // The turns of the waiting edges, after that of the new one, until all have had theirs.
-fn turns(
-    a: usize,
-    k: usize,
-    start: usize,
-    ones: &[u8; 512],
-    others: &[u8; 512],
-    colours: &[u8; 512],
-    forests: &[u8; 512],
-    root: &[u8; 384],
-    way: &[u64; 384],
-    edge: &[u16; 384],
-    queue: &mut [u16; 379],
-    from: &mut [u16; 379],
-    seen: &mut [u64; 6],
-) -> Outcome
-    requires { (g : Given a k ones.now others.now colours.now forests.now root.now way.now edge.now)
-        × Turned g queue.old from.old seen.old 1 (Outcome.Stuck start) }
-    ensures { (g : Given a k ones.now others.now colours.now forests.now root.now way.now edge.now)
-        → Turned g queue.old from.old seen.old 1 (Outcome.Stuck start)
-        → Searched g queue.new from.new result }
+fn turns(book: &Book, limits: Limits, tables: &Tables, queue: &mut Queue) -> Option<End>
+    requires { (g : GivenFor limits book.now tables.now) × TurnedIn g queue.old 1 None }
+    ensures { (g : GivenFor limits book.now tables.now)
+        → TurnedIn g queue.old 1 None
+        → SearchedFor g queue.new result }
 {
-    let mut n = start;
     let mut q: usize = 1;
-    while q < n {
-        let r = turn(
-            a, k, q, n, ones, others, colours, forests, root, way, edge, queue, from, seen,
-        );
-        match r {
-            Outcome::Found(p, f) => {
-                return Outcome::Found(p, f);
-            }
-            Outcome::Stuck(more) => {
-                n = more;
-                q = q + 1;
-            }
+    // (`while`: the queue grows in it, and the end of a range is fixed before its first turn.)
+    while q < queue.size {
+        if let Some(end) = turn(book, limits, q, tables, queue) {
+            return Some(end);
         }
+        q += 1;
     }
-    Outcome::Stuck(n)
+    None
 }
 
-// The search for a place of the new edge, with a number, between u and v, of a colour: the first places of the queue hold what waits at its end, and
-// of the other array the places from which each was reached.
-pub fn search(
-    a: usize,
-    k: usize,
-    u: usize,
-    v: usize,
-    colour: u8,
-    number: u16,
-    ones: &[u8; 512],
-    others: &[u8; 512],
-    colours: &[u8; 512],
-    forests: &[u8; 512],
-    root: &[u8; 384],
-    way: &[u64; 384],
-    edge: &[u16; 384],
-    queue: &mut [u16; 379],
-    from: &mut [u16; 379],
-) -> Outcome
-    requires { (length queue.old ≡ 379) × (length from.old ≡ 379)
-        × Sought a k (the_edge u v colour) number ones.now others.now colours.now forests.now root.now way.now edge.now }
-    ensures { (s : Sought a k (the_edge u v colour) number ones.now others.now colours.now forests.now root.now way.now edge.now)
-        → Searched s.given queue.new from.new result }
+// The search for a place of the new edge, whose number is the next of the book: the queue holds what waits at its end.
+pub fn search(book: &Book, edge: Edge, tables: &Tables, queue: &mut Queue) -> Option<End>
+    requires { SoughtIn book.now edge tables.now }
+    ensures { (s : SoughtIn book.now edge tables.now) → SearchedIn s queue.new result }
 {
-    queue[0] = number;
-    from[0] = 0;
-    let mut seen = [0u64; 6];
-    let last = last_of(colour, a, k);
-    let t = reaching::try_forests(0, last, u, v, 0, 1, root, way, edge, queue, from, &mut seen);
-    match t {
-        Tried::Free(f) => Outcome::Found(0, f),
-        Tried::Waits(n) => turns(
-            a, k, n, ones, others, colours, forests, root, way, edge, queue, from, &mut seen,
-        ),
+    let red = usize::from(book.a);
+    let limits = Limits {
+        red,
+        black: red + usize::from(book.b),
+    };
+    queue.edges[0] = book.count + 1;
+    queue.from[0] = 0;
+    queue.seen = [0; 6];
+    queue.size = 1;
+    match reaching::try_forests(0, limits.of(edge.colour), edge, 0, tables, queue) {
+        Some(forest) => Some(End { place: 0, forest }),
+        None => turns(book, limits, tables, queue),
     }
 }
 
 // The path to a place, its last edge first and without the new edge: written to the first places of an array, and how many they are.
-pub fn trail(place: usize, queue: &[u16; 379], from: &[u16; 379], path: &mut [u16; 379]) -> usize
-    requires { (length path.old ≡ 379) × Led place queue.now from.now }
-    ensures { (t : Led place queue.now from.now) → Traced t.w place path.old path.new result }
+// (A lent array and a count: the library has no heap.)
+pub fn trail(place: usize, queue: &Queue, path: &mut [u16; 379]) -> usize
+    requires { LedIn place queue.now }
+    ensures { (t : LedIn place queue.now) → Traced t.w place path.old path.new result }
 {
     let mut q = place;
     let mut n: usize = 0;
+    // (`while`: it follows links, each back to some earlier place; no index is counted but that of the path.)
     while q != 0 {
-        path[n] = queue[q];
-        q = from[q] as usize;
-        n = n + 1;
+        path[n] = queue.edges[q];
+        q = usize::from(queue.from[q]);
+        n += 1;
     }
     n
 }
 
-// The edges at the places 1 to n - 1 of the queue are marked, where none is.
-fn mark(n: usize, queue: &[u16; 379], marks: &mut [u64; 9])
-    requires { (1 ≤ n) × (n ≤ 379) × (length marks.old ≡ 9) × ((q : ℕ) → 1 ≤ q → q < n → get_or queue.now q 0 < 576)
+// The edges that wait, but for the first, are marked, where none is.
+fn mark(queue: &Queue, marks: &mut [u64; 9])
+    requires { (1 ≤ queue.now.size) × ((q : ℕ) → 1 ≤ q → q < queue.now.size → get_or queue.now.edges q 0 < 576)
         × ((y : ℕ) → ¬ (Is (is_marked marks.old y))) }
-    ensures { Marked queue.now n marks.new }
+    ensures { Marked queue.now.edges queue.now.size marks.new }
 {
-    let mut p: usize = 1;
-    while p < n {
-        let e = queue[p];
-        let i = (e / 64) as usize;
-        let bit = words::one((e % 64) as usize);
-        marks[i] = marks[i] | bit;
-        p = p + 1;
+    for &e in &queue.edges[1..queue.size] {
+        let i = usize::from(e / 64);
+        marks[i] |= words::one(usize::from(e % 64));
     }
 }
 
 // The numbers of a word's bits, counted from base, are written to the list behind the first places, smallest first.
-fn list_word(base: u16, word: u64, start: usize, list: &mut [u16]) -> usize
+fn list_word(base: usize, word: u64, start: usize, list: &mut [u16]) -> usize
     requires { (base ≤ 512) × Coming (λ j. base + j) word start (length list.old) }
     ensures { (t : Coming (λ j. base + j) word start (length list.old))
         → MarksWritten list.old start (numbers t.edges t.most) list.new result }
 {
-    let mut left = word;
     let mut n = start;
-    while left != 0 {
-        let t = words::lowest(left);
-        list[n] = base + (t as u16);
-        n = n + 1;
-        left = words::without(left, t);
+    for t in words::set_bits(word) {
+        // (`as`: the sum is below 576, and u16 has no `From<usize>`.)
+        list[n] = (base + t) as u16;
+        n += 1;
     }
     n
 }
@@ -203,20 +131,19 @@ fn list_marked(marks: &[u64; 9], list: &mut [u16]) -> usize
         → MarksWritten list.old 0 (numbers (is_marked marks.now) t.m) list.new result }
 {
     let mut n: usize = 0;
-    let mut i: usize = 0;
-    while i < 9 {
-        n = list_word((i * 64) as u16, marks[i], n, list);
-        i = i + 1;
+    for (i, &word) in marks.iter().enumerate() {
+        n = list_word(i * 64, word, n, list);
     }
     n
 }
 
 // The circuit: the edges that wait, but for the new one, in the first places of the list, smallest first, and how many they are.
-pub fn circuit(n: usize, queue: &[u16; 379], list: &mut [u16]) -> usize
-    requires { (378 ≤ length list.old) × Queued n queue.now }
-    ensures { (t : Queued n queue.now) → CircuitListed t.w t.d.m n list.old list.new result }
+// (A lent list and a count: the library has no heap.)
+pub fn circuit(queue: &Queue, list: &mut [u16]) -> usize
+    requires { (378 ≤ length list.old) × QueuedIn queue.now }
+    ensures { (t : QueuedIn queue.now) → CircuitListed t.w t.d.m queue.now.size list.old list.new result }
 {
     let mut marks = [0u64; 9];
-    mark(n, queue, &mut marks);
+    mark(queue, &mut marks);
     list_marked(&marks, list)
 }

@@ -4,139 +4,95 @@
 // and none is offered. What is printed is a sum over the books, so that the work cannot be left out.
 #![tactic(auto)]
 
-ghost use Rattle.std.specs.Prelude.{◌≤◌, ◌<◌};
+ghost use Rattle.std.specs.Prelude.{◌≤◌};
 
 use rule::Book;
-use text::Judgement;
+use text::Edges;
 
+// A byte that is no digit counts as 0. (No `Option`: what the program does with such input may not change.)
 fn digit(x: u8) -> usize
     ensures { result ≤ 9 }
 {
-    if x < 48 {
-        return 0;
+    match x {
+        b'0'..=b'9' => usize::from(x - b'0'),
+        _ => 0,
     }
-    if 57 < x {
-        return 0;
-    }
-    (x - 48) as usize
-}
-
-fn wide(x: u8) -> usize
-    ensures { result ≤ 255 }
-{
-    x as usize
 }
 
 // Something of a book: the forests of two edges.
-fn figure(book: Book) -> usize
+fn figure(book: &Book) -> u16
     ensures { result ≤ 2805 }
 {
-    wide(book.forests[0]) * 10 + wide(book.forests[200])
-}
-
-fn offer(book: Book, one: usize, other: usize, colour: u8) -> Book {
-    let mut list = [0u16; 378];
-    let r = step::offer(book, one, other, wide(colour), &mut list);
-    r.book
+    u16::from(book.forests[0]) * 10 + u16::from(book.forests[200])
 }
 
 // The edges of a book, each by a public offer to another.
-fn offered(read: Book) -> Book {
-    let opened = book::open(wide(read.a), wide(read.b), wide(read.n));
-    let mut book = opened.book;
-    let mut i: usize = 0;
-    while i < 512 {
-        book = offer(
-            book,
-            wide(read.ones[i]),
-            wide(read.others[i]),
-            read.colours[i],
-        );
-        i += 1;
+fn offered(read: &Book) -> Book {
+    let mut book = book::open(
+        usize::from(read.a),
+        usize::from(read.b),
+        usize::from(read.n),
+    )
+    .book;
+    let mut list = [0u16; 378];
+    for i in 0..512 {
+        let one = usize::from(read.ones[i]);
+        let other = usize::from(read.others[i]);
+        let colour = usize::from(read.colours[i]);
+        book = step::offer(book, one, other, colour, &mut list).book;
     }
     book
 }
 
 fn read(text: &[u8]) -> Book {
-    let r = reader::read(text);
-    r.book
+    reader::read(text).book
 }
 
 // What reading does with a text, all but the offers: it is judged, and its edges are entered in lists.
-fn look(text: &[u8]) -> usize
+fn look(text: &[u8]) -> u16
     ensures { result ≤ 2805 }
 {
-    let mut ones = [0u8; 512];
-    let mut others = [0u8; 512];
-    let mut colours = [0u8; 512];
-    let found = text::find(text, &mut ones, &mut others, &mut colours);
-    match found {
-        Judgement::Sheet {
-            a: _,
-            b: _,
-            n: _,
-            edges: _,
-        } => wide(ones[0]) * 9 + wide(others[200]) + wide(colours[100]),
-        Judgement::Refused(_, _) => 0,
+    let mut edges = Edges::new();
+    match text::find(text, &mut edges) {
+        Ok(_) => {
+            u16::from(edges.ones[0]) * 9
+                + u16::from(edges.others[200])
+                + u16::from(edges.colours[100])
+        }
+        Err(_) => 0,
     }
 }
 
-// Looked at so many times.
-fn looks(times: usize, text: &[u8]) -> usize {
+// The sum of what so many calls answer.
+fn sum<F: Fn() -> u16>(times: usize, call: F) -> usize
+    requires { F.IsAlwaysCallable call }
+{
     let mut sum = 0;
-    let mut i = 0;
-    while i < times {
-        sum = (sum + look(text)) % 1000003;
-        i += 1;
-    }
-    sum
-}
-
-// Read so many times.
-fn reads(times: usize, text: &[u8]) -> usize {
-    let mut sum = 0;
-    let mut i = 0;
-    while i < times {
-        sum = (sum + figure(read(text))) % 1000003;
-        i += 1;
-    }
-    sum
-}
-
-// Offered so many times.
-fn offers(times: usize, book: Book) -> usize {
-    let mut sum = 0;
-    let mut i = 0;
-    while i < times {
-        sum = (sum + figure(offered(book))) % 1000003;
-        i += 1;
+    for _ in 0..times {
+        sum = (sum + usize::from(call())) % 1000003;
     }
     sum
 }
 
 fn repeat(what: u8, times: usize, text: &[u8]) -> usize {
-    if what == b'k' {
-        return reads(times, text);
+    match what {
+        b'k' => sum(times, || figure(&read(text))),
+        b'o' => {
+            let book = read(text);
+            sum(times, || figure(&offered(&book)))
+        }
+        _ => sum(times, || look(text)),
     }
-    if what == b'o' {
-        return offers(times, read(text));
-    }
-    looks(times, text)
 }
 
-fn main() {
+// A write that fails is not told, as it never was: what the program does may not change.
+fn main(rt: HostRuntime) {
     let mut space = [0u8; 8198];
-    let input: &mut [u8] = &mut space;
-    let n = io::read_full(0, input);
-    if n < 6 {
+    let n = io::read_full(0, &mut space);
+    let [what, a, b, c, d, _, text @ ..] = &space[..n] else {
         return;
-    }
-    let whole = &input[..];
-    let times = digit(whole[1]) * 1000
-        + digit(whole[2]) * 100
-        + digit(whole[3]) * 10
-        + digit(whole[4]);
-    let sum = repeat(whole[0], times, &whole[6..n]);
-    io::print_decimal(1, sum as u64);
-    io::write_all(1, b"\n");
+    };
+    let times = digit(*a) * 1000 + digit(*b) * 100 + digit(*c) * 10 + digit(*d);
+    let sum = repeat(*what, times, text);
+    let _ = println!(rt; "{sum}");
 }

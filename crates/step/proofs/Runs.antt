@@ -8,7 +8,8 @@ use lib.ListN.{length, set, replicate, length-set, length-replicate}
 use Rattle.rule.specs.declared.Book.{Book}
 use Rattle.rule.specs.declared.Answer.{Answer}
 use Rattle.rule.specs.declared.Answer.TheVariants.{Kept, Implied, Refused}
-use Rattle.rule.specs.Books.{Edge, design_of, ProfileRange, BodiesRange, HeadRule, Obeys, Sound, GrownBook}
+use Rattle.rule.specs.declared.Edge.{Edge}
+use Rattle.rule.specs.Books.{design_of, ProfileRange, BodiesRange, HeadRule, Obeys, Sound, GrownBook}
 use Rattle.rule.specs.Calls.{new_book, Adds, Offer}
 use Rattle.step.specs.Runs.{Run}
 use Rattle.step.specs.Runs.Run.{opened, offered}

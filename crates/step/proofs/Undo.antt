@@ -15,7 +15,8 @@ use Rattle.rule.specs.declared.Answer.TheVariants.{Kept, Implied, Refused}
 use Rattle.rule.specs.Sets.{In}
 use Rattle.rule.specs.Legal.{Design, Grown}
 use Rattle.rule.specs.Figures.{freedom}
-use Rattle.rule.specs.Books.{Edge, design_of, kept_of, plus}
+use Rattle.rule.specs.declared.Edge.{Edge}
+use Rattle.rule.specs.Books.{design_of, kept_of, plus}
 use Rattle.rule.specs.Calls.{Offer, Question}
 use Rattle.theory.specs.Order.{Renumbered, ImpliedBy}
 use Rattle.theory.proofs.Theorems.{order_freedom, order_implies, more_implied, implied_adds_none, exchange_law}

@@ -5,91 +5,44 @@
 // only seeks its place.
 #![tactic(auto)]
 
-ghost use Rattle.std.specs.Prelude.{◌≡◌};
+ghost use Rattle.std.specs.Prelude.{◌≡◌, ◌≤◌};
 ghost use Rattle.rule.specs.Books.{the_edge};
 ghost use Rattle.rule.specs.Calls.{Offer, Question};
-ghost use Rattle.engine.specs.Take.{Takeable};
-ghost use Rattle.step.specs.Answers.{answer_of, Askable};
+ghost use Rattle.engine.specs.Take.{TakeableIn};
+ghost use Rattle.step.specs.Answers.{AskableIn};
 
-use book::Checked;
-use engine::{Head, Place};
-use rule::{Answer, Book};
+use engine::{Place, Scratch};
+use rule::{Answer, Book, Edge};
+use tables::Tables;
 
-// What an offer answers, and the book after it.
+// What an offer answers, and the book after it. (A struct: every answer hands a book back; docs/DECISIONS.md, point 8.)
 #[derive(Clone, Copy)]
 pub struct Offered {
     pub answer: Answer,
     pub book: Book,
 }
 
-// A refusal, handed on.
-fn refusal(c: Checked) -> Answer
-    ensures { result ≡ answer_of c }
+// The edge between u and v of a colour, which each fit into a byte.
+// (`as`, here and below: the numbers fit, and `try_from` would have a refusal that no call can answer.)
+fn as_edge(u: usize, v: usize, colour: usize) -> Edge
+    requires { (u ≤ 255) × ((v ≤ 255) × (colour ≤ 255)) }
+    ensures { result ≡ the_edge u v colour }
 {
-    match c {
-        Checked::Fine => Answer::Kept(0),
-        Checked::Refused(reason) => Answer::Refused(reason),
+    Edge {
+        one: u as u8,
+        other: v as u8,
+        colour: colour as u8,
     }
 }
 
 // An edge that passed the checks of an offer is taken.
-fn taken(
-    book: Book,
-    u: u8,
-    v: u8,
-    colour: u8,
-    root: &mut [u8; 384],
-    way: &mut [u64; 384],
-    who: &mut [u64; 384],
-    edge: &mut [u16; 384],
-    size: &mut [u8; 6],
-    list: &mut [u16],
-) -> Offered
-    requires { Takeable book (the_edge u v colour) list.old root.old way.old who.old edge.old size.old }
-    ensures { Offer book result.book (the_edge u v colour) list.old list.new result.answer }
+fn taken(book: &Book, edge: Edge, tables: &mut Tables, list: &mut [u16]) -> Offered
+    requires { TakeableIn book.now edge list.old tables.old }
+    ensures { Offer book.now result.book edge list.old list.new result.answer }
 {
-    let head = Head {
-        a: book.a,
-        b: book.b,
-        n: book.n,
-        count: book.count,
-    };
-    let mut ones = book.ones;
-    let mut others = book.others;
-    let mut colours = book.colours;
-    let mut forests = book.forests;
-    let mut queue = [0u16; 379];
-    let mut from = [0u16; 379];
-    let mut path = [0u16; 379];
-    let answer = engine::take(
-        head,
-        u,
-        v,
-        colour,
-        &mut ones,
-        &mut others,
-        &mut colours,
-        &mut forests,
-        root,
-        way,
-        who,
-        edge,
-        size,
-        &mut queue,
-        &mut from,
-        &mut path,
-        list,
-    );
-    let longer = Book {
-        a: book.a,
-        b: book.b,
-        n: book.n,
-        count: book.count + 1,
-        ones: ones,
-        others: others,
-        colours: colours,
-        forests: forests,
-    };
+    let mut longer = *book;
+    let mut scratch = Scratch::new();
+    let answer = engine::take(&mut longer, edge, tables, &mut scratch, list);
     Offered {
         answer: answer,
         book: longer,
@@ -97,100 +50,42 @@ fn taken(
 }
 
 // The edge between u and v, of a colour, is offered to the book. Kept, it answers how many edges moved; implied, how many numbers its
-// circuit has, and the list holds them.
+// circuit has, and the list holds them. (No `?`: a refusal hands the book back too.)
 pub fn offer(book: Book, u: usize, v: usize, colour: usize, list: &mut [u16]) -> Offered
     ensures { Offer book result.book (the_edge u v colour) list.old list.new result.answer }
 {
-    let mut root = [0u8; 384];
-    let mut way = [0u64; 384];
-    let mut who = [0u64; 384];
-    let mut edge = [0u16; 384];
-    let mut size = [0u8; 6];
-    let c = book::offer_checks(
-        book,
-        u,
-        v,
-        colour,
-        list.len(),
-        &mut root,
-        &mut way,
-        &mut who,
-        &mut edge,
-        &mut size,
-    );
-    let Checked::Fine = c else {
+    let mut tables = Tables::new();
+    let checked = book::offer_checks(&book, u, v, colour, list.len(), &mut tables);
+    if let Err(reason) = checked {
         return Offered {
-            answer: refusal(c),
-            book: book,
+            answer: Answer::Refused(reason),
+            book,
         };
-    };
-    taken(
-        book,
-        u as u8,
-        v as u8,
-        colour as u8,
-        &mut root,
-        &mut way,
-        &mut who,
-        &mut edge,
-        &mut size,
-        list,
-    )
+    }
+    let edge = as_edge(u, v, colour);
+    taken(&book, edge, &mut tables, list)
 }
 
 // An edge that passed the checks of a question is sought a place for.
-fn sought(
-    book: Book,
-    u: u8,
-    v: u8,
-    colour: u8,
-    root: &[u8; 384],
-    way: &[u64; 384],
-    edge: &[u16; 384],
-    list: &mut [u16],
-) -> Answer
-    requires { Askable book (the_edge u v colour) list.old root.now way.now edge.now }
-    ensures { Question book (the_edge u v colour) list.old list.new result }
+fn sought(book: &Book, edge: Edge, tables: &Tables, list: &mut [u16]) -> Answer
+    requires { AskableIn book.now edge list.old tables.now }
+    ensures { Question book.now edge list.old list.new result }
 {
-    let place = engine::place_for(book, u, v, colour, root, way, edge, list);
-    match place {
+    match engine::place_for(book, edge, tables, list) {
         Place::Found(n, f) => Answer::Kept(n as u16),
         Place::Stuck(n) => Answer::Implied(n),
     }
 }
 
-// What an offer would answer. The book stays as it is, and may be full.
+// What an offer would answer. The book stays as it is, and may be full. (No `?`: an `Answer` has a refusal of its own.)
 pub fn question(book: Book, u: usize, v: usize, colour: usize, list: &mut [u16]) -> Answer
     ensures { Question book (the_edge u v colour) list.old list.new result }
 {
-    let mut root = [0u8; 384];
-    let mut way = [0u64; 384];
-    let mut who = [0u64; 384];
-    let mut edge = [0u16; 384];
-    let mut size = [0u8; 6];
-    let c = book::question_checks(
-        book,
-        u,
-        v,
-        colour,
-        list.len(),
-        &mut root,
-        &mut way,
-        &mut who,
-        &mut edge,
-        &mut size,
-    );
-    let Checked::Fine = c else {
-        return refusal(c);
-    };
-    sought(
-        book,
-        u as u8,
-        v as u8,
-        colour as u8,
-        &root,
-        &way,
-        &edge,
-        list,
-    )
+    let mut tables = Tables::new();
+    let checked = book::question_checks(&book, u, v, colour, list.len(), &mut tables);
+    if let Err(reason) = checked {
+        return Answer::Refused(reason);
+    }
+    let edge = as_edge(u, v, colour);
+    sought(&book, edge, &tables, list)
 }

@@ -7,7 +7,8 @@ use native.Mathlib.Omega.{arith}
 use Rattle.rule.specs.Sets.{In}
 use Rattle.rule.specs.Legal.{Design}
 use Rattle.rule.specs.Forests.{in_forest}
-use Rattle.rule.specs.Books.{Edge, plus}
+use Rattle.rule.specs.declared.Edge.{Edge}
+use Rattle.rule.specs.Books.{plus}
 use Rattle.rule.proofs.Tests.{in_one, in_split}
 use Rattle.theory.proofs.Groups.Longer.{unplaced_new, phi_old, phi_new, joined_forest, joined_forest_without}
 use Rattle.tables.specs.Tables.{slot, Slots, Labels, Ways, Tabled}

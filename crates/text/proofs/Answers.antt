@@ -7,7 +7,9 @@ use mathlib.Core.List.{List}
 use Prim.Native.Nat.{ℕ, ◌+◌}
 use lib.ListN.{length, take, drop}
 use denote.Ref.{Bor}
-use Rattle.text.specs.declared.Judgement.{Judgement}
+use Rattle.std.specs.Prelude.{Result, Ok, Err}
+use Rattle.text.specs.declared.Head.{Head}
+use Rattle.text.specs.declared.Refusal.{Refusal}
 use Rattle.text.specs.Sheets.{Sheet, SheetRange, text_of}
 use Rattle.text.specs.Faults.{Fault, FirstFault}
 use Rattle.text.specs.Judgements.{IsSheet, Judges, PartOf, Hands}
@@ -22,24 +24,24 @@ same_sheet text s t p q e f = sheet_determined s t p q (sym e ∙ f)
 pub never_both : {C : Type 0} (text : List ℕ) (s : Sheet) (f : Fault) → SheetRange s → text ≡ text_of s → FirstFault text f → C
 never_both text s f p e q = absurd (sheet_no_fault s f p (subst (λ (t : List ℕ). FirstFault t f) e q))
 
--- the judgement of a sheet
-answer_of : Sheet → Judgement
-answer_of s = Judgement.Sheet s.a s.b s.n (length s.edges)
+-- the head of a sheet
+head_of : Sheet → Head
+head_of s = record { a = s.a; b = s.b; n = s.n; edges = length s.edges }
 
-named : {text : List ℕ} {a b n m : ℕ} (p : IsSheet text a b n m) → Judgement.Sheet a b n m ≡ answer_of p.sheet
-unfolding answer_of
-named p = λ i. Judgement.Sheet (p.a_is i) (p.b_is i) (p.n_is i) (p.edges_is i)
+named : {text : List ℕ} (h : Head) (p : IsSheet text h.a h.b h.n h.edges) → h ≡ head_of p.sheet
+unfolding head_of
+named h p = λ i. record { a = p.a_is i; b = p.b_is i; n = p.n_is i; edges = p.edges_is i }
 
-pub judge_determined : (text : List ℕ) (x y : Judgement) → Judges text x → Judges text y → x ≡ y
-judge_determined text (Judgement.Sheet a b n m) (Judgement.Sheet c d k l) p q =
-    named p ∙ ap answer_of (same_sheet text p.sheet q.sheet p.range q.range p.is_text q.is_text) ∙ sym (named q)
-judge_determined text (Judgement.Sheet a b n m) (Judgement.Refused r line) p q =
-    never_both text p.sheet q.0 p.range p.is_text q.1
-judge_determined text (Judgement.Refused r line) (Judgement.Sheet a b n m) p q =
-    never_both text q.sheet p.0 q.range q.is_text p.1
-judge_determined text (Judgement.Refused r line) (Judgement.Refused x number) p q =
+pub judge_determined : (text : List ℕ) (x y : Result Head Refusal) → Judges text x → Judges text y → x ≡ y
+judge_determined text (Ok h) (Ok k) p q =
+    ap Ok (named h p ∙ ap head_of (same_sheet text p.sheet q.sheet p.range q.range p.is_text q.is_text) ∙ sym (named k q))
+judge_determined text (Ok h) (Err r) p q = never_both text p.sheet q.0 p.range p.is_text q.1
+judge_determined text (Err r) (Ok h) p q = never_both text q.sheet p.0 q.range q.is_text p.1
+judge_determined text (Err r) (Err s) p q =
     let f = fault_determined text p.0 q.0 p.1 q.1 in
-    ap₂ Judgement.Refused (p.2 ∙ ap (λ (g : Fault). g.reason) f ∙ sym q.2) (p.3 ∙ ap (λ (g : Fault). g.line) f ∙ sym q.3)
+    let reason : r.reason ≡ s.reason = p.2 ∙ ap (λ (g : Fault). g.reason) f ∙ sym q.2 in
+    let line : r.line ≡ s.line = p.3 ∙ ap (λ (g : Fault). g.line) f ∙ sym q.3 in
+    λ i. Err (record { reason = reason i; line = line i })
 
 -- ---- fault
 

@@ -13,7 +13,8 @@ use native.Mathlib.Omega.{arith}
 use lib.ListN.{length, take, length-append}
 use Rattle.rule.specs.declared.Reason.{Reason}
 use Rattle.rule.specs.Reasons.{Pass}
-use Rattle.rule.specs.Books.{Edge, capacity}
+use Rattle.rule.specs.declared.Edge.{Edge}
+use Rattle.rule.specs.Books.{capacity}
 use Rattle.grammar.specs.Grammar.{fault_in}
 use Rattle.grammar.specs.Grammar.Leads.{here, one_line}
 use Rattle.grammar.proofs.Cuts as grammar

@@ -3,7 +3,7 @@
 -- In order: the parts of a text; the cases of `read_field`; it finds each number that is there, and nothing else; a number and the byte
 -- that ends it are determined by what they begin.
 -- Assumes nothing.
-use mathlib.Core.Path.{◌≡◌, refl, sym, ap, ◌∙◌, subst₂}
+use mathlib.Core.Path.{◌≡◌, refl, sym, ap, ◌∙◌, subst}
 use mathlib.Core.Logic.{◌≢◌}
 use mathlib.Core.List.{List, [], ◌∷◌, ◌++◌}
 use Prim.Native.Nat.{ℕ, zero, suc, ◌+◌, ◌-◌, ◌^◌, ◌≤◌, ◌<◌}
@@ -12,10 +12,11 @@ use lib.ListN.{length, get_or, take, drop, length-drop, length-append, drop_of_l
 use lib.Seq.{take_all, drop-drop, get_or-drop, drop-append_seam}
 use Rattle.rule.specs.Sets.{◌=?◌}
 use Rattle.rule.proofs.Tests.{by_le, by_eq}
+use Rattle.std.specs.Prelude.{Option, Some, None}
+use Rattle.std.proofs.lemmas.Option.{none-some, same_Some}
 use Rattle.text.specs.declared.Reading.{Reading}
-use Rattle.text.specs.declared.Reading.TheVariants.{Value, Nothing}
 use Rattle.text.specs.Lines.{pick, numeral}
-use Rattle.text.specs.Readings.{digit_of, taken, scan, read_number, closed, read_field}
+use Rattle.text.specs.Readings.{reads, digit_of, taken, scan, read_number, closed, read_field}
 use Rattle.text.proofs.Picks.{pick_eq, pick_ne}
 use Rattle.text.proofs.Scans.{number_complete, NumberAt, number_sound}
 
@@ -25,6 +26,11 @@ use Rattle.text.proofs.Scans.{number_complete, NumberAt, number_sound}
 pub part_rest : (text : List ℕ) (at : ℕ) → take (length text - at) (drop at text) ≡ drop at text
 part_rest text at = take_all (length text - at) (drop at text) (omega (arith, length-drop at text))
 
+-- what it then reads
+pub read_told : {o p : Option Reading} (most : ℕ) (text : List ℕ) (at : ℕ) → o ≡ read_number most (take (length text - at) (drop at text)) → o ≡ p
+    → read_number most (drop at text) ≡ p
+read_told most text at e q = sym (e ∙ ap (read_number most) (part_rest text at)) ∙ q
+
 -- what follows a front is what lies past its length
 pub past_front : (text front more : List ℕ) (at : ℕ) → drop at text ≡ front ++ more → drop (at + length front) text ≡ more
 past_front text front more at e = sym (drop-drop (length front) at text) ∙ ap (drop (length front)) e ∙ drop-append_seam front more
@@ -33,40 +39,41 @@ pub front_within : (text front more : List ℕ) (at : ℕ) → at ≤ length tex
 front_within text front more at h e = omega (arith, ap length e, length-append front more, length-drop at text)
 
 -- the digits of a number end within the text
-pub used_within : (most : ℕ) (text : List ℕ) (at : ℕ) (r : Reading) (v k : ℕ) → 1 ≤ most → r ≡ read_number most (drop at text) → r ≡ Value v k
-    → at ≤ length text → at + k ≤ length text
-used_within zero text at r v k some e q h = absurd (omega arith)
-used_within (suc w) text at r v k some e q h =
-    let found = number_sound w (drop at text) v k (sym e ∙ q) in
-    omega (arith, found.uses, front_within text (numeral v) found.rest at h found.begins)
+pub used_within : (most : ℕ) (text : List ℕ) (at : ℕ) (r : Reading) → 1 ≤ most → read_number most (drop at text) ≡ Some r → at ≤ length text
+    → at + r.next ≤ length text
+used_within zero text at r some e h = absurd (omega arith)
+used_within (suc w) text at r some e h =
+    let found = number_sound w (drop at text) r e in
+    omega (arith, found.uses, front_within text (numeral r.value) found.rest at h found.begins)
 
 -- ---- the cases
 
-none_past : (most : ℕ) → read_number most [] ≡ Nothing
+none_past : (most : ℕ) → read_number most [] ≡ None
 unfolding read_number scan taken pick ◌=?◌
 none_past zero = refl
 none_past (suc w) = refl
 
 module _ (most stop : ℕ) (text : List ℕ) (at : ℕ) where
-  pub field_past : length text < at → read_field most stop text at ≡ Nothing
+  pub field_past : length text < at → read_field most stop text at ≡ None
   unfolding read_field closed
   field_past h =
       ap (λ (s : List ℕ). closed stop text at (read_number most s)) (drop_of_length-le text {i = at} (omega arith))
       ∙ ap (closed stop text at) (none_past most)
 
-  module _ (r : Reading) (e : r ≡ read_number most (drop at text)) where
-    pub field_none : r ≡ Nothing → read_field most stop text at ≡ Nothing
+  pub field_none : read_number most (drop at text) ≡ None → read_field most stop text at ≡ None
+  unfolding read_field closed
+  field_none e = ap (closed stop text at) e
+
+  module _ (r : Reading) (e : read_number most (drop at text) ≡ Some r) where
+    pub field_is : get_or text (at + r.next) 0 ≡ stop → read_field most stop text at ≡ reads r.value (at + r.next + 1)
     unfolding read_field closed
-    field_none q = ap (closed stop text at) (sym e ∙ q)
+    field_is h = ap (closed stop text at) e ∙ pick_eq _ _ _ _ h
 
-    module _ (v k : ℕ) (q : r ≡ Value v k) where
-      pub field_is : get_or text (at + k) 0 ≡ stop → read_field most stop text at ≡ Value v (at + k + 1)
-      unfolding read_field closed
-      field_is h = ap (closed stop text at) (sym e ∙ q) ∙ pick_eq _ _ _ _ h
+    pub field_other : get_or text (at + r.next) 0 ≢ stop → read_field most stop text at ≡ None
+    unfolding read_field closed
+    field_other h = ap (closed stop text at) e ∙ pick_ne _ _ _ _ h
 
-      pub field_other : get_or text (at + k) 0 ≢ stop → read_field most stop text at ≡ Nothing
-      unfolding read_field closed
-      field_other h = ap (closed stop text at) (sym e ∙ q) ∙ pick_ne _ _ _ _ h
+pub ruleset fields = (part_rest, used_within, field_past, field_none, field_is, field_other)
 
 -- ---- a number that is there is found
 
@@ -79,11 +86,11 @@ byte_after text front more at e =
     at_seam [] ys = refl
     at_seam (x ∷ xs) ys = at_seam xs ys
 
-module _ (w stop : ℕ) (ends : 9 < digit_of stop) where
+module _ (w stop : ℕ) (ends : digit_of stop ≡ None) where
   pub field_complete : (text : List ℕ) (at n : ℕ) (more : List ℕ) → n < 10 ^ suc w → drop at text ≡ numeral n ++ stop ∷ more
-      → read_field (suc w) stop text at ≡ Value n (at + length (numeral n) + 1)
+      → read_field (suc w) stop text at ≡ reads n (at + length (numeral n) + 1)
   field_complete text at n more small e =
-      field_is (suc w) stop text at (read_number (suc w) (drop at text)) refl n (length (numeral n))
+      field_is (suc w) stop text at (record { value = n; next = length (numeral n) })
       (ap (read_number (suc w)) e ∙ number_complete w n (stop ∷ more) small ends)
       (byte_after text (numeral n) (stop ∷ more) at e)
 
@@ -92,8 +99,7 @@ module _ (w stop : ℕ) (ends : 9 < digit_of stop) where
   field_determined n m r q hn hm e =
       let left = number_complete w n (stop ∷ r) hn ends in
       let right = number_complete w m (stop ∷ q) hm ends in
-      let same_read : Value n (length (numeral n)) ≡ Value m (length (numeral m)) = sym left ∙ ap (read_number (suc w)) e ∙ right in
-      let same : n ≡ m = cc in
+      let same : n ≡ m = ap (λ (r : Reading). r.value) (same_Some _ _ (sym left ∙ ap (read_number (suc w)) e ∙ right)) in
       let tails : stop ∷ r ≡ stop ∷ q =
       sym (drop-append_seam (numeral n) (stop ∷ r))
       ∙ ap (drop (length (numeral n))) e
@@ -130,20 +136,20 @@ field_there w stop text at v k h l b f =
       within = omega (arith, f.uses, ap length rest, ap length f.begins, length-append (numeral v) f.rest, length-drop at text);
     }
 
-pub field_sound : (w stop : ℕ) (text : List ℕ) (at n next : ℕ) → 1 ≤ stop → read_field (suc w) stop text at ≡ Value n next → FieldAt w stop text at n next
-field_sound w stop text at n next h e =
-    by_le at (length text) (λ l. found l (read_number (suc w) (drop at text)) refl) (λ l. refuted (sym (field_past (suc w) stop text at l) ∙ e))
+pub field_sound : (w stop : ℕ) (text : List ℕ) (at : ℕ) (r : Reading) → 1 ≤ stop → read_field (suc w) stop text at ≡ Some r
+    → FieldAt w stop text at r.value r.next
+field_sound w stop text at r h e =
+    by_le at (length text) (λ l. found l (read_number (suc w) (drop at text)) refl) (λ l. refuted (field_past (suc w) stop text at l))
   where
-    refuted : {C : Type 0} → Nothing ≡ Value n next → C
-    refuted q = let z : ◌≡◌ {A = ℕ} 0 1 = cc in absurd (omega arith)
+    refuted : {C : Type 0} → read_field (suc w) stop text at ≡ None → C
+    refuted q = absurd (none-some r (sym q ∙ e))
 
-    found : at ≤ length text → (r : Reading) → r ≡ read_number (suc w) (drop at text) → FieldAt w stop text at n next
-    found l Nothing q = refuted (sym (field_none (suc w) stop text at Nothing q refl) ∙ e)
-    found l (Value v k) q =
-        by_eq (get_or text (at + k) 0) stop
+    found : at ≤ length text → (o : Option Reading) → read_number (suc w) (drop at text) ≡ o → FieldAt w stop text at r.value r.next
+    found l None q = refuted (field_none (suc w) stop text at q)
+    found l (Some s) q =
+        by_eq (get_or text (at + s.next) 0) stop
         (λ b.
-        let f : Value v (at + k + 1) ≡ Value n next = sym (field_is (suc w) stop text at (Value v k) q v k refl b) ∙ e in
-        let value : v ≡ n = cc in
-        let place : at + k + 1 ≡ next = cc in
-        subst₂ (FieldAt w stop text at) value place (field_there w stop text at v k h l b (number_sound w (drop at text) v k (sym q))))
-        (λ b. refuted (sym (field_other (suc w) stop text at (Value v k) q v k refl b) ∙ e))
+        subst (λ (x : Reading). FieldAt w stop text at x.value x.next)
+        (same_Some (record { value = s.value; next = at + s.next + 1 }) r (sym (field_is (suc w) stop text at s q b) ∙ e))
+        (field_there w stop text at s.value s.next h l b (number_sound w (drop at text) s q)))
+        (λ b. refuted (field_other (suc w) stop text at s q b))

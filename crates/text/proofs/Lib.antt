@@ -1,4 +1,5 @@
 pub mod Picks
+pub mod Results
 pub mod Ranges
 pub mod Numerals
 pub mod Scans

@@ -3,7 +3,8 @@
 --
 -- In order: a line taken apart; a key; a number line.
 -- Assumes nothing.
-use mathlib.Core.Path.{◌≡◌, sym, ap, ◌∙◌}
+use mathlib.Core.Path.{◌≡◌, refl, sym, ap, ◌∙◌}
+use mathlib.Core.Bool.{true, false}
 use mathlib.Core.Logic.{◌≢◌}
 use mathlib.Core.List.{List, [], ◌∷◌, ◌++◌, append_assoc}
 use Prim.Native.Nat.{ℕ, ◌+◌, ◌≤◌, ◌<◌}
@@ -12,10 +13,12 @@ use lib.ListN.{length, take, drop, length-append}
 use lib.Seq.{drop-drop, drop-append_seam, take-append_seam, take_at}
 use Rattle.rule.specs.Sets.{Is}
 use Rattle.rule.proofs.Tests.{cases}
-use Rattle.text.specs.declared.Reading.TheVariants.{Value, Nothing}
+use Rattle.std.specs.Prelude.{Some, None}
+use Rattle.std.proofs.lemmas.Option.{none-some}
+use Rattle.text.specs.declared.Reading.{Reading}
 use Rattle.text.specs.Lines.{numeral, Number, LF, comma, listed, line}
-use Rattle.text.specs.Readings.{digit_of, begins, begins_at, read_number_line}
-use Rattle.text.proofs.Picks.{pick_is, pick_not}
+use Rattle.text.specs.Readings.{digit_of, read_field, begins, begins_at, read_number_line}
+use Rattle.text.proofs.Picks.{pick_is, pick_not, pick_false}
 use Rattle.text.proofs.Numerals.{numeral_determined}
 use Rattle.text.proofs.Scans.{no_digit}
 use Rattle.text.proofs.Keys.{begins_of, begins_is, begins_at_in, begins_at_within}
@@ -38,10 +41,10 @@ unfolding line listed
 line_written key n = simp append_assoc
 
 -- neither byte that ends a number is a digit
-pub LF-ends : 9 < digit_of LF
+pub LF-ends : digit_of LF ≡ None
 LF-ends = no_digit LF (λ h. absurd (omega (arith, h.low)))
 
-pub comma_ends : 9 < digit_of comma
+pub comma_ends : digit_of comma ≡ None
 comma_ends = no_digit comma (λ h. absurd (omega (arith, h.low)))
 
 -- ---- a key
@@ -60,6 +63,21 @@ pub after_key : (key r q : List ℕ) → key ++ r ≡ key ++ q → r ≡ q
 after_key key r q e = sym (drop-append_seam key r) ∙ ap (drop (length key)) e ∙ drop-append_seam key q
 
 -- ---- a number line
+
+module _ (key text : List ℕ) (at : ℕ) where
+  pub line_keyed : true ≡ begins_at key text at → read_number_line key text at ≡ read_field 3 LF text (at + length key)
+  unfolding read_number_line
+  line_keyed h = pick_is _ _ _ (sym h)
+
+  pub line_other : false ≡ begins_at key text at → read_number_line key text at ≡ None
+  unfolding read_number_line
+  line_other h = pick_false _ _ _ h refl
+
+  -- past a key that stands there the text goes on
+  pub key_room : true ≡ begins_at key text at → at + length key ≤ length text
+  key_room h = begins_at_within key text at (sym h)
+
+pub ruleset number_lines = (line_keyed, line_other, key_room)
 
 -- a line of a key and one number is of one number, however many digits it has
 pub line_number_determined : (key : List ℕ) (n m : ℕ) → line key (n ∷ []) ≡ line key (m ∷ []) → n ≡ m
@@ -85,27 +103,25 @@ module _ (key : List ℕ) where
     pub past : at < next
     pub within : next ≤ length text
 
-  pub number_line_sound : (text : List ℕ) (at n next : ℕ) → read_number_line key text at ≡ Value n next → NumberLineAt text at n next
+  pub number_line_sound : (text : List ℕ) (at : ℕ) (r : Reading) → read_number_line key text at ≡ Some r → NumberLineAt text at r.value r.next
   unfolding read_number_line
-  number_line_sound text at n next e =
+  number_line_sound text at r e =
       cases (begins_at key text at)
       (λ h.
-      let f = field_sound 2 LF text (at + length key) n next (omega arith) (sym (pick_is _ _ _ h) ∙ e) in
+      let f = field_sound 2 LF text (at + length key) r (omega arith) (sym (pick_is _ _ _ h) ∙ e) in
       record {
         small = f.small;
-        begins = key_there key text at h ∙ ap (λ (s : List ℕ). key ++ s) f.begins ∙ sym (line_one key n (drop next text));
+        begins = key_there key text at h ∙ ap (λ (s : List ℕ). key ++ s) f.begins ∙ sym (line_one key r.value (drop r.next text));
         past = omega (arith, f.past);
         within = f.within;
       })
-      (λ h. let q = sym (pick_not _ _ _ h) ∙ e in let z : ◌≡◌ {A = ℕ} 0 1 = cc in absurd (omega arith))
+      (λ h. absurd (none-some r (sym (pick_not _ _ _ h) ∙ e)))
 
-  pub number_line_none : (text : List ℕ) (at : ℕ) → at ≤ length text → read_number_line key text at ≡ Nothing → (n : ℕ) (more : List ℕ)
+  pub number_line_none : (text : List ℕ) (at : ℕ) → at ≤ length text → read_number_line key text at ≡ None → (n : ℕ) (more : List ℕ)
       → Number n → drop at text ≢ line key (n ∷ []) ++ more
   unfolding read_number_line
   number_line_none text at l e n more small q =
       let whole = q ∙ line_one key n more in
       let number = field_complete 2 LF LF-ends text (at + length key) n more small (past_front text key _ at whole) in
       let found = pick_is _ _ _ (key_found key text _ at l whole) ∙ number in
-      let both = sym e ∙ found in
-      let z : ◌≡◌ {A = ℕ} 0 1 = cc in
-      absurd (omega arith)
+      absurd (none-some _ (sym e ∙ found))

@@ -1,7 +1,7 @@
 -- Edges that stand in lists, in front of what the lists held (`EdgesEntered`, specs/EdgeLists.antt).
 --
 -- An edge entered behind those that stand there is one edge more, and the lists keep their length. Read back, the edges are those entered, and each is in range where all are;
--- so the sheet of the lists is that of the text.
+-- so the sheet of the lists is that of the text. At the end: a refused line with its number.
 -- Not here: the walk that enters them (Walks.antt).
 -- Assumes nothing.
 use mathlib.Core.Path.{◌≡◌, refl, sym, ap, ap₂, ◌∙◌, subst}
@@ -11,19 +11,29 @@ use native.Mathlib.Omega.{arith}
 use lib.ListN.{length, get_or, take, drop, set, length-map, length-append, get_or-append, get_or-map}
 use lib.Seq.{take-suc, take-length}
 use Rattle.rule.specs.declared.Reason.{Reason}
-use Rattle.rule.specs.Books.{EdgeRange, Edge, capacity}
+use Rattle.rule.specs.declared.Edge.{Edge}
+use Rattle.rule.specs.Books.{EdgeRange, capacity}
 use Rattle.rule.specs.Calls.{Filled}
 use Rattle.rule.proofs.Tests.{by_le}
-use Rattle.text.specs.declared.Judgement.{Judgement}
+use Rattle.std.specs.Prelude.{Result, Ok, Err}
+use Rattle.text.specs.declared.edges.Edges.{Edges}
+use Rattle.text.specs.declared.Head.{Head}
+use Rattle.text.specs.declared.Refusal.{Refusal}
+use Rattle.text.specs.Judging.{lined}
 use Rattle.text.specs.Puts.{Writes}
 use Rattle.text.specs.Sheets.{Sheet, EdgesRange}
 use Rattle.text.specs.Faults.{RefusedAt}
-use Rattle.text.specs.EdgeLists.{EdgeLists, Roomy, EdgeEntered, EdgesEntered, blank, edge_in, edges_in, sheet_in}
+use Rattle.text.specs.EdgeLists.{EdgeLists, lists_of, Roomy, EdgeEntered, EdgesEntered, blank, edge_in, edges_in, sheet_in}
 use Rattle.text.specs.Judgements.{IsSheet, Enters}
+use Rattle.text.proofs.Results.{same_ok, same_err, ok_err}
 use Rattle.text.proofs.Answers.{same_sheet, never_both}
 use Rattle.text.proofs.Overwrites.{writes_as, writes_more, writes_length}
 
 -- ---- entered
+
+-- the lists of a value `Edges` are long
+pub roomy : (e : Edges) → Roomy (lists_of e)
+roomy e = record { ones_long = e.ones_long; others_long = e.others_long; colours_long = e.colours_long }
 
 pub entered_none : {l : EdgeLists} → EdgesEntered [] l l
 entered_none = record { ones = refl; others = refl; colours = refl }
@@ -110,12 +120,16 @@ module _ (l : EdgeLists) where
 -- ---- the text
 
 -- one that is refused is that of no sheet, and another of one only
-pub enters_refused : {text : List ℕ} {before after : EdgeLists} {reason : Reason} {line : ℕ} → RefusedAt text reason line
-    → Enters text before after (Judgement.Refused reason line)
+pub enters_refused : {text : List ℕ} {before after : EdgeLists} {r : Refusal} → RefusedAt text r.reason r.line → Enters text before after (Err r)
 enters_refused {text} p = record { judges = p; entered = λ s range is. never_both text s p.0 range is p.1 }
 
-pub enters_sheet : {text : List ℕ} {before after : EdgeLists} {a b n m : ℕ} (p : IsSheet text a b n m) → EdgesEntered p.sheet.edges before after
-    → Enters text before after (Judgement.Sheet a b n m)
+-- so where a refusal is answered with its line
+pub enters_as : {text : List ℕ} {before after : EdgeLists} {o : Result Head Refusal} {d : Refusal} {reason : Reason} {line : ℕ} → RefusedAt text reason line
+    → d ≡ record { reason = reason; line = line } → o ≡ Err d → Enters text before after o
+enters_as {text} {before} {after} p is q = subst (Enters text before after) (sym (q ∙ ap Err is)) (enters_refused p)
+
+pub enters_sheet : {text : List ℕ} {before after : EdgeLists} {h : Head} (p : IsSheet text h.a h.b h.n h.edges) → EdgesEntered p.sheet.edges before after
+    → Enters text before after (Ok h)
 enters_sheet {text} {before} {after} p l =
     record {
       judges = p;
@@ -128,3 +142,16 @@ pub entered_sheet : {text : List ℕ} {a b n m : ℕ} {before after : EdgeLists}
 entered_sheet {after = after} p l =
     let edges = ap (edges_in after) p.edges_is ∙ entered_edges l in
     λ i. record { a = p.a_is i; b = p.b_is i; n = p.n_is i; edges = edges i }
+
+-- ---- a refusal with the number of its line
+
+module _ {T : Type 0} (line : ℕ) where
+  -- a refused line: why, and what is answered
+  pub lined_err : (r : Result T Reason) {o : Result T Refusal} {d : Refusal} → o ≡ lined line r → o ≡ Err d
+      → (reason : Reason) × (r ≡ Err reason) × (d ≡ record { reason = reason; line = line })
+  lined_err (Ok x) e q = absurd (ok_err (sym e ∙ q))
+  lined_err (Err reason) e q = (reason, refl, same_err (sym q ∙ e))
+
+  pub lined_ok : (r : Result T Reason) {o : Result T Refusal} {x : T} → o ≡ lined line r → o ≡ Ok x → r ≡ Ok x
+  lined_ok (Ok y) e q = ap Ok (same_ok (sym e ∙ q))
+  lined_ok (Err reason) e q = absurd (ok_err (sym q ∙ e))

@@ -8,7 +8,8 @@ use mathlib.Core.List.{List, [], ◌∷◌, ◌++◌, append_assoc, append-nil}
 use Prim.Native.Nat.{ℕ, ◌+◌, ◌≤◌}
 use native.Mathlib.Omega.{arith}
 use lib.ListN.{length, length-append}
-use Rattle.rule.specs.Books.{EdgeRange, Edge, ProfileRange, BodiesRange, capacity}
+use Rattle.rule.specs.declared.Edge.{Edge}
+use Rattle.rule.specs.Books.{EdgeRange, ProfileRange, BodiesRange, capacity}
 use Rattle.rule.specs.Reasons.{Pass}
 use Rattle.text.specs.Lines.{line, key_a, key_b, key_bodies, key_edges}
 use Rattle.text.specs.Sheets.{Sheet, EdgesRange, SheetRange, edge_text, edges_text, head_text, text_of}

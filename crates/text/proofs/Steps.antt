@@ -11,14 +11,14 @@ use native.Mathlib.Omega.{arith}
 use lib.ListN.{length, length-append}
 use Rattle.rule.specs.declared.Reason.{Reason}
 use Rattle.rule.specs.declared.Reason.TheVariants.{Profile, Bodies, Body, SameBody, Full}
-use Rattle.rule.specs.Books.{Edge, capacity}
+use Rattle.rule.specs.declared.Edge.{Edge}
+use Rattle.rule.specs.Books.{capacity}
 use Rattle.rule.specs.Reasons.{number_of, place_of, Check, plain}
 use Rattle.rule.proofs.Tests.{by_le, by_eq}
 use Rattle.rule.proofs.Determined.{Single, nothing_single}
+use Rattle.std.specs.Prelude.{Option, Some, None}
 use Rattle.text.specs.declared.Reading.{Reading}
-use Rattle.text.specs.declared.Reading.TheVariants.{Value, Nothing}
 use Rattle.text.specs.declared.EdgeRead.{EdgeRead}
-use Rattle.text.specs.declared.EdgeRead.TheVariants.{Joins}
 use Rattle.grammar.specs.Grammar.{NextIs}
 use Rattle.grammar.proofs.Outcomes.{LineAt, is_due, is_other, Determined, PassOrFail, passes, fail, Lawful}
 use Rattle.text.specs.Lines.{key_a, key_b, key_bodies, key_edges}
@@ -26,7 +26,7 @@ use Rattle.text.specs.Due.{Said, nothing, to_a, to_b, to_bodies, to_edges, lines
 use Rattle.text.specs.Readings.{read_number_line, read_edge}
 use Rattle.text.proofs.Ranges.{le_dec, in_dec, both_dec, first_dec, profile_dec}
 use Rattle.text.proofs.LineReads.{number_line_determined, number_line_sound, number_line_none}
-use Rattle.text.proofs.EdgeReads.{edge_determined, edge_sound, edge_none}
+use Rattle.text.proofs.EdgeReads.{edge_determined, edge, edge_sound, edge_none}
 
 -- ---- a line
 
@@ -34,11 +34,11 @@ module _ (key : List ℕ) (then : ℕ → Said) (checks : ℕ → List Check) wh
   number_decided : (text : List ℕ) (at : ℕ) → at ≤ length text → LineAt (number_line key then checks) text at
   number_decided text at l = go (read_number_line key text at) refl
     where
-      go : (r : Reading) → read_number_line key text at ≡ r → LineAt (number_line key then checks) text at
-      go Nothing e = is_other (λ n more h. number_line_none key text at l e n more h.allowed h.begins)
-      go (Value n place) e =
-          let f = number_line_sound key text at n place e in
-          is_due n place (record { allowed = f.small; begins = f.begins }) f.past f.within
+      go : (o : Option Reading) → read_number_line key text at ≡ o → LineAt (number_line key then checks) text at
+      go None e = is_other (λ n more h. number_line_none key text at l e n more h.allowed h.begins)
+      go (Some r) e =
+          let f = number_line_sound key text at r e in
+          is_due r.value r.next (record { allowed = f.small; begins = f.begins }) f.past f.within
 
   number_determined : Determined (number_line key then checks)
   number_determined rest n m r q h k = number_line_determined key n m r q h.allowed k.allowed (sym h.begins ∙ k.begins)
@@ -48,12 +48,11 @@ module _ (a b n m : ℕ) (before : List Edge) where
   edge_decided text at l =
       by_le m (length before) (λ all. is_other (λ e more h. absurd (omega (arith, h.allowed.0)))) (λ some. go some (read_edge text at) refl)
     where
-      go : length before < m → (r : EdgeRead) → read_edge text at ≡ r → LineAt (edge_line a b n m before) text at
-      go some EdgeRead.Nothing e = is_other (λ x more h. edge_none text at l e x more h.allowed.1 h.begins)
-      go some (Joins u v c place) e =
-          let f = edge_sound text at u v c place e in
-          let edge : Edge = record { one = u; other = v; colour = c } in
-          is_due edge place (record { allowed = (some, f.written); begins = f.begins }) f.past f.within
+      go : length before < m → (o : Option EdgeRead) → read_edge text at ≡ o → LineAt (edge_line a b n m before) text at
+      go some None e = is_other (λ x more h. edge_none text at l e x more h.allowed.1 h.begins)
+      go some (Some r) e =
+          let f = edge_sound text at r e in
+          is_due (edge r) r.next (record { allowed = (some, f.written); begins = f.begins }) f.past f.within
 
   edge_line_determined : Determined (edge_line a b n m before)
   edge_line_determined rest e f r q h k = edge_determined e f r q h.allowed.1 k.allowed.1 (sym h.begins ∙ k.begins)

@@ -3,7 +3,8 @@
 -- In order: what the lines before have said; the kinds of lines; the table of due lines; book text as a grammar.
 use Rattle.std.specs.Prelude.{◌≡◌, ◌≢◌, List, [], ◌∷◌, ◌++◌, ℕ, ◌+◌, ◌≤◌, ◌<◌, length}
 use Rattle.rule.specs.Sets.{In}
-use Rattle.rule.specs.Books.{Edge, ProfileRange, BodiesRange, ColourRange, capacity}
+use Rattle.rule.specs.declared.Edge.{Edge}
+use Rattle.rule.specs.Books.{ProfileRange, BodiesRange, ColourRange, capacity}
 use Rattle.rule.specs.Reasons.{Check, plain}
 use Rattle.grammar.specs.Grammar.{DueLine, Grammar}
 use Rattle.text.specs.Lines.{Number, line, key_a, key_b, key_bodies, key_edges}

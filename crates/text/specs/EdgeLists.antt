@@ -3,8 +3,10 @@
 --
 -- In order: the lists; an edge entered in them, and edges entered from the front; the edges that stand in lists, and the sheet of them.
 use Rattle.std.specs.Prelude.{◌≡◌, List, [], ◌∷◌, ◌++◌, map, ℕ, zero, suc, length, get_or, set}
-use Rattle.rule.specs.Books.{Edge, capacity}
+use Rattle.rule.specs.declared.Edge.{Edge}
+use Rattle.rule.specs.Books.{capacity}
 use Rattle.rule.specs.Calls.{Filled}
+use Rattle.text.specs.declared.edges.Edges.{Edges}
 use Rattle.text.specs.Sheets.{Sheet}
 
 pub record EdgeLists : Type 0 where
@@ -14,6 +16,10 @@ pub record EdgeLists : Type 0 where
 
 abbrev pub lists : (ones others colours : List ℕ) → EdgeLists
 lists ones others colours = record { ones = ones; others = others; colours = colours }
+
+-- the lists of a value `Edges` of src/
+abbrev pub lists_of : Edges → EdgeLists
+lists_of e = lists e.ones e.others e.colours
 
 -- each has as many places as a book has edges at most
 pub record Roomy (l : EdgeLists) : Type 0 where

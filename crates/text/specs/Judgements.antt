@@ -2,10 +2,11 @@
 --
 -- In order: what is said of a text that is a book, and of one that is not; what the inner functions say; the part that `fault` hands back. Not here: edges in lists
 -- (specs/EdgeLists.antt).
-use Rattle.std.specs.Prelude.{◌≡◌, ◌⊎◌, List, [], ℕ, ◌+◌, ◌≤◌, length, take, drop}
+use Rattle.std.specs.Prelude.{◌≡◌, ◌⊎◌, Result, Ok, Err, List, [], ℕ, ◌+◌, ◌≤◌, length, take, drop}
 use Rattle.std.specs.Borrow.{Bor}
 use Rattle.rule.specs.declared.Reason.{Reason}
-use Rattle.text.specs.declared.Judgement.{Judgement}
+use Rattle.text.specs.declared.Head.{Head}
+use Rattle.text.specs.declared.Refusal.{Refusal}
 use Rattle.text.specs.Sheets.{Sheet, SheetRange, text_of}
 use Rattle.text.specs.EdgeLists.{EdgeLists, EdgesEntered}
 use Rattle.text.specs.Due.{nothing, to_edges}
@@ -24,22 +25,22 @@ pub record IsSheet (text : List ℕ) (a b n edges : ℕ) : Type 0 where
   pub edges_is : edges ≡ length sheet.edges
 
 -- the answer's cases: a sheet with its numbers; or refused, with the reason, whose number `number_of` of crate rule gives, and the number of the line at fault
-abbrev pub JudgementSays : (sheet : (a b n edges : ℕ) → Type 0) (refused : Reason → (line : ℕ) → Type 0) → Judgement → Type 0
-JudgementSays sheet refused (Judgement.Sheet a b n edges) = sheet a b n edges
-JudgementSays sheet refused (Judgement.Refused reason line) = refused reason line
+abbrev pub JudgementSays : (sheet : (a b n edges : ℕ) → Type 0) (refused : Reason → (line : ℕ) → Type 0) → Result Head Refusal → Type 0
+JudgementSays sheet refused (Ok h) = sheet h.a h.b h.n h.edges
+JudgementSays sheet refused (Err r) = refused r.reason r.line
 
-abbrev pub Judges : List ℕ → Judgement → Type 0
+abbrev pub Judges : List ℕ → Result Head Refusal → Type 0
 Judges text = JudgementSays (IsSheet text) (RefusedAt text)
 
 -- ---- the inner functions
 
 -- the four lines of the head are due and in range, and the edge lines are due from `first` on
-pub record IsHead (text : List ℕ) (a b n edges first : ℕ) : Type 0 where
+pub record IsHead (text : List ℕ) (h : Head) (first : ℕ) : Type 0 where
   pub within : first ≤ length text
-  pub leads : Leads nothing text (to_edges a b n edges []) (drop first text)
+  pub leads : Leads nothing text (to_edges h.a h.b h.n h.edges []) (drop first text)
 
 -- the text is judged, and where it is that of a sheet in range the edges of this stand in the lists
-pub record Enters (text : List ℕ) (before after : EdgeLists) (found : Judgement) : Type 0 where
+pub record Enters (text : List ℕ) (before after : EdgeLists) (found : Result Head Refusal) : Type 0 where
   pub judges : Judges text found
   pub entered : (s : Sheet) → SheetRange s → text ≡ text_of s → EdgesEntered s.edges before after
 

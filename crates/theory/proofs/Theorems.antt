@@ -18,7 +18,8 @@ use Rattle.rule.specs.Sets.{Is, ◌or◌, Set, In, ◌with◌, ◌without◌, be
 use Rattle.rule.specs.Legal.{Design, Ends, k, Legal, Keeps, Implies, InCircuit, Circuit, Grown}
 use Rattle.rule.specs.Forests.{limit, kept_in, Arranged, moved}
 use Rattle.rule.specs.Figures.{freedom, InGroup}
-use Rattle.rule.specs.Books.{Edge, design_of, kept_of, Sound, plus}
+use Rattle.rule.specs.declared.Edge.{Edge}
+use Rattle.rule.specs.Books.{design_of, kept_of, Sound, plus}
 use Rattle.rule.proofs.Counting.{Within}
 use Rattle.rule.proofs.Legality.{legal_sub}
 use Rattle.theory.specs.Rank.{rank, black, touched, pieces}

@@ -2,7 +2,8 @@
 use Rattle.std.specs.Prelude.{◌≡◌, ℕ, suc}
 use Rattle.rule.specs.Sets.{Set, In}
 use Rattle.rule.specs.Legal.{Design, Implies}
-use Rattle.rule.specs.Books.{Edge, plus}
+use Rattle.rule.specs.declared.Edge.{Edge}
+use Rattle.rule.specs.Books.{plus}
 
 -- e has the profile, the bodies and the edges of d, edge i of d being edge `to i` of e and edge j of e edge `fro j` of d
 pub record Renumbered (d e : Design) (to fro : ℕ → ℕ) : Type 0 where

@@ -1,3 +1,2 @@
 pub mod Sheets
-pub mod Refusing
 pub mod Determined

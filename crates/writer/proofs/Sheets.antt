@@ -10,7 +10,8 @@ use Prim.Native.Nat.{ℕ, zero, suc, ◌+◌, ◌≤◌}
 use native.Mathlib.Omega.{arith}
 use lib.ListN.{length, length-append}
 use Rattle.rule.specs.declared.Book.{Book}
-use Rattle.rule.specs.Books.{Edge, edge_of, EdgeRange, Obeys, Sound}
+use Rattle.rule.specs.declared.Edge.{Edge}
+use Rattle.rule.specs.Books.{edge_of, EdgeRange, Obeys, Sound}
 use Rattle.theory.proofs.Legal.Sound.{sound_head}
 use Rattle.text.specs.Sheets.{EdgesRange, SheetRange, edge_text, edges_text, head_text, text_of, text_room}
 use Rattle.text.proofs.SheetRuns.{edges_text_append}

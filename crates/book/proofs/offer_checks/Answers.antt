@@ -4,10 +4,10 @@ use mathlib.Core.Logic.{inl}
 use mathlib.Core.List.{[], ◌∷◌}
 use Prim.Native.Nat.{◌<◌}
 use native.Mathlib.Omega.{arith}
+use Rattle.std.specs.Prelude.{Ok, Err}
+use Rattle.rule.specs.declared.Reason.{Reason}
 use Rattle.rule.specs.Books.{the_edge, capacity}
 use Rattle.rule.specs.Reasons.{plain, question_checks}
-use Rattle.book.specs.declared.Checked.{Checked}
-use Rattle.rule.specs.declared.Reason.{Reason}
 use Rattle.book.proofs.Checks.{refused_first, answered_later}
 use Rattle.book.proofs.offer_checks.Goals as goal
 
@@ -15,20 +15,19 @@ pub returns-in_default : goal.returns-in_default
 returns-in_default c =
     let x = c.args in
     λ list q.
-    refused_first (question_checks x.book (the_edge x.u x.v x.colour) list) (plain 6 (x.book.count < capacity) ∷ []) _ _ c.question_checks-c.result _
-    c.in_default.is (c.question_checks-c.ensures list q)
+    refused_first (question_checks x.book.now (the_edge x.u x.v x.colour) list) (plain 6 (x.book.now.count < capacity) ∷ []) _ _ c.question_checks-checked.result
+    c.in_default.not-Ok (c.question_checks-checked.ensures list q)
 
-pub returns-then-count-lt512 : goal.returns-then-count-lt512
-returns-then-count-lt512 c =
+pub returns-then-book-lt512 : goal.returns-then-book-lt512
+returns-then-book-lt512 c =
     let x = c.args in
     λ list q.
-    answered_later (question_checks x.book (the_edge x.u x.v x.colour) list) (plain 6 (x.book.count < capacity) ∷ []) _ Unit c.question_checks-c.result
-    c.in-Fine.is (c.question_checks-c.ensures list q) Checked.Fine ((c.if-count-lt512.true, tt), tt)
+    answered_later (question_checks x.book.now (the_edge x.u x.v x.colour) list) (plain 6 (x.book.now.count < capacity) ∷ []) _ Unit (c.in-Ok.ensures list q)
+    (Ok tt) ((c.if-book-lt512.true, tt), tt)
 
 pub returns : goal.returns
 returns c =
     let x = c.args in
     λ list q.
-    answered_later (question_checks x.book (the_edge x.u x.v x.colour) list) (plain 6 (x.book.count < capacity) ∷ []) _ Unit c.question_checks-c.result
-    c.in-Fine.is (c.question_checks-c.ensures list q) (Checked.Refused Reason.Full)
-    (inl ((λ l. omega (arith, l, c.if-count-lt512.false)), refl, refl))
+    answered_later (question_checks x.book.now (the_edge x.u x.v x.colour) list) (plain 6 (x.book.now.count < capacity) ∷ []) _ Unit (c.in-Ok.ensures list q)
+    (Err Reason.Full) (inl ((λ l. omega (arith, l, c.if-book-lt512.false)), refl, refl))

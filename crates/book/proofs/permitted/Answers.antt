@@ -6,18 +6,18 @@ use Rattle.book.proofs.permitted.Goals as goal
 
 pub returns-then-colour-eq1 : goal.returns-then-colour-eq1
 returns-then-colour-eq1 c =
-    let w = red_permits c.args.a c.args.b c.args.colour c.args.forest c.if-colour-eq1.true in
-    (λ h. w.0 (leb-true c.args.forest c.args.a h), λ p. le-leb c.args.forest c.args.a (w.1 p))
+    let w = red_permits c.args.book.now.a c.args.book.now.b c.args.colour c.args.forest c.if-colour-eq1.true in
+    (λ h. w.0 (leb-true c.args.forest c.args.book.now.a h), λ p. le-leb c.args.forest c.args.book.now.a (w.1 p))
 
 pub returns-then-colour-eq2 : goal.returns-then-colour-eq2
 returns-then-colour-eq2 c =
-    let w = black_permits c.args.a c.args.b c.args.colour c.args.forest c.if-colour-eq1.false c.if-colour-eq2.true in (
-      λ h. w.0 (leb-true c.args.forest (c.args.a + c.args.b) h),
-      λ p. le-leb c.args.forest (c.args.a + c.args.b) (w.1 p),
+    let w = black_permits c.args.book.now.a c.args.book.now.b c.args.colour c.args.forest c.if-colour-eq1.false c.if-colour-eq2.true in (
+      λ h. w.0 (leb-true c.args.forest (c.args.book.now.a + c.args.book.now.b) h),
+      λ p. le-leb c.args.forest (c.args.book.now.a + c.args.book.now.b) (w.1 p),
     )
 
 pub returns-else-colour-eq2 : goal.returns-else-colour-eq2
 returns-else-colour-eq2 c = (
   λ h. absurd (c.if-colour-eq2.false (eqb-true c.args.colour 2 h)),
-  λ p. absurd (none_permits c.args.a c.args.b c.args.colour c.args.forest c.if-colour-eq1.false c.if-colour-eq2.false p),
+  λ p. absurd (none_permits c.args.book.now.a c.args.book.now.b c.args.colour c.args.forest c.if-colour-eq1.false c.if-colour-eq2.false p),
 )

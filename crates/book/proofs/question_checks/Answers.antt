@@ -9,11 +9,10 @@ pub returns-in_default : goal.returns-in_default
 returns-in_default c =
     let x = c.args in
     λ list q.
-    refused_first (book_checks x.book) (edge_checks x.book.n (the_edge x.u x.v x.colour) list) _ _ c.sound-c.result _ c.in_default.is c.sound-c.ensures
+    refused_first (book_checks x.book.now) (edge_checks x.book.now.n (the_edge x.u x.v x.colour) list) _ _ c.sound-checked.result c.in_default.not-Ok c.sound-checked.ensures
 
 pub returns : goal.returns
 returns c =
     let x = c.args in
     λ list q.
-    answered_later (book_checks x.book) (edge_checks x.book.n (the_edge x.u x.v x.colour) list) _ Unit c.sound-c.result c.in-Fine.is
-    c.sound-c.ensures c.asked.result (c.asked.ensures list q)
+    answered_later (book_checks x.book.now) (edge_checks x.book.now.n (the_edge x.u x.v x.colour) list) _ Unit c.in-Ok.ensures c.asked.result (c.asked.ensures list q)

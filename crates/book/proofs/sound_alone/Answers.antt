@@ -5,6 +5,4 @@ use Rattle.book.proofs.Checks.{found_alone}
 use Rattle.book.proofs.sound_alone.Goals as goal
 
 pub returns : goal.returns
-returns c =
-    let new = c.sound.new in
-    found_alone (book_checks c.args.book) (HoldsForests c.args.book new.root new.way new.who new.edge new.size) c.sound.result c.sound.ensures
+returns c = found_alone (book_checks c.args.book.now) (HoldsForests c.args.book.now c.sound.new.tables) c.sound.result c.sound.ensures

@@ -1,12 +1,8 @@
--- What `all_kept` keeps true from turn to turn, and what its turns count down.
-use Prim.Native.Nat.{◌-◌, ◌≤◌}
+-- What `all_kept` keeps true from turn to turn.
 use Rattle.rule.specs.Sets.{numbers}
 use Rattle.search.specs.Marks.{MarksWritten}
 use Rattle.book.proofs.Figures.{placed}
 use Rattle.circuits.proofs.all_kept.Given as goal
 
 abbrev pub invariant-loop-e : goal.invariant-loop-e
-invariant-loop-e l = (l.e ≤ l.count) × MarksWritten l.initial.list 0 (numbers (placed l.forests) l.e) l.list l.n
-
-abbrev pub decreases-loop-e : goal.decreases-loop-e
-decreases-loop-e l = l.count - l.e
+invariant-loop-e l = MarksWritten l.initial.list 0 (numbers (placed l.forests) l.e) l.list l.n

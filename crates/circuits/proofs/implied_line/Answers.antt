@@ -5,8 +5,4 @@ use Rattle.circuits.proofs.implied_line.Goals as goal
 
 pub list_line-requires : goal.list_line-requires
 list_line-requires c =
-    let holds = c.circuit-n.ensures in
-    record {
-      n_in_bounds = holds.within;
-      list_in_bounds = omega (arith, circuit_fits c.args.book c.requires.0.sound c.args.e holds.is_circuit, c.requires.1);
-    }
+    omega (arith, circuit_fits c.args.book.now c.requires.listable.sound c.args.e c.circuit-n.ensures.is_circuit, c.requires.room)

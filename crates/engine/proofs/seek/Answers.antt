@@ -1,133 +1,100 @@
 -- `engine::seek`: the search computes the model's, and the path or the circuit is read off what it leaves (proofs/Seeking.antt).
 use borrow.Author.Rules.{rules}
-use mathlib.Core.Path.{◌≡◌, refl, subst}
+use mathlib.Core.Path.{◌≡◌, refl}
 use mathlib.Core.List.{List}
-use Prim.Native.Nat.{ℕ, suc, ◌+◌, ◌<◌}
+use Prim.Native.Nat.{ℕ, ◌<◌}
 use lib.ListN.{length}
-use native.Mathlib.Omega.{arith}
+use Rattle.std.specs.Prelude.{Some, None}
 use Rattle.rule.specs.declared.Book.{Book}
-use Rattle.rule.specs.Books.{Edge, the_edge, offered, next}
+use Rattle.rule.specs.declared.Edge.{Edge}
+use Rattle.rule.specs.Books.{offered, next}
 use Rattle.theory.specs.Search.{search as searching}
-use Rattle.theory.proofs.Legal.Sound.{sound_head}
+use Rattle.theory.specs.Search.Result.{found, going}
+use Rattle.tables.specs.declared.Tables.{Tables}
+use Rattle.reaching.specs.declared.waiting.Queue.{Queue}
 use Rattle.reaching.specs.Setting.{HoldsWaiting}
-use Rattle.search.specs.declared.Outcome.{Outcome}
-use Rattle.search.specs.declared.Outcome.TheVariants.{Found, Stuck}
-use Rattle.search.specs.Given.{Sought}
-use Rattle.search.specs.Answers.{Answers, Searched}
-use Rattle.search.specs.Ends.{Led, Traced, Queued, CircuitListed}
-use Rattle.engine.specs.declared.Head.{Head}
-use Rattle.engine.specs.Seek.{book_of, forests_for, Seekable, EndsIn, Fails}
+use Rattle.reaching.specs.Trying.{Comes}
+use Rattle.search.specs.declared.End.{End}
+use Rattle.search.specs.Given.{SoughtIn}
+use Rattle.search.specs.Answers.{SearchedIn}
+use Rattle.search.specs.Ends.{LedIn, Traced, QueuedIn, CircuitListed}
+use Rattle.engine.specs.Seek.{forests_for, SeekableIn, EndsIn, Fails}
 use Rattle.engine.proofs.Seeking.{sought, searched, led, small_forest, ends_there, waits, fails_there}
 use Rattle.engine.proofs.seek.Goals as goal
 
-module _ (head : Head) (u v colour : ℕ) (ones others colours forests : List ℕ) {root way edge : List ℕ}
-    (s : Seekable (book_of head ones others colours forests) u v root way edge) where
-  abbrev book : Book
-  book = book_of head ones others colours forests
-
-  abbrev given : Edge
-  given = the_edge u v colour
-
-  abbrev Asked : Type 0
-  Asked = Sought head.a (head.a + head.b) given (head.count + 1) ones others colours forests root way edge
-
-  numbered : head.count + 1 ≡ suc head.count
-  numbered = omega arith
-
-  abbrev asked : Asked
-  asked = sought book given s (head.count + 1) numbered
-
-  -- what the book makes of the arrays after the search
-  abbrev Come : (queue from : List ℕ) → Outcome → Type 0
-  Come queue from o =
-      Answers (λ w. HoldsWaiting w queue from) (searching (offered book given) (forests_for book) (next book)) o
-
-  module _ (queue from : List ℕ) {r o : Outcome} (told : (t : Asked) → Searched t.given queue from r) (is : r ≡ o) where
-    come : Come queue from o
-    come = subst (Come queue from) is (searched book given s (head.count + 1) numbered queue from r (told asked))
+module _ (B : Book) (given : Edge) (T : Tables) (s : SeekableIn B given T) (Q : Queue) where
+  abbrev asked : SoughtIn B given T
+  asked = sought B given s
 
   -- where it ended
-  module _ (queue from : List ℕ) {r : Outcome} {p f : ℕ} (told : (t : Asked) → Searched t.given queue from r)
-      (is : r ≡ Found p f) where
-    abbrev way_back : Led p queue from
-    way_back = led book given s p f queue from (come queue from told is)
+  module _ (end : End) (told : (t : SoughtIn B given T) → SearchedIn t Q (Some end)) where
+    come : Comes (λ w. HoldsWaiting w Q.edges Q.from) (found end.place end.forest) (searching (offered B given) (forests_for B) (next B))
+    come = searched B given s Q.edges Q.from Q.size (Some end) (told asked)
 
-    forest_small : f < 256
-    forest_small = small_forest book given s p f queue from (come queue from told is)
+    abbrev way_back : LedIn end.place Q
+    way_back = led B given s end.place end.forest Q.edges Q.from come
 
-    ends : {path path' : List ℕ} {n : ℕ} → length path ≡ 379 → ((t : Led p queue from) → Traced t.w p path path' n)
-        → EndsIn book given path' n f × (length path' ≡ 379)
-    ends {path} {path'} {n} long traced = ends_there book given s p f queue from (come queue from told is) path path' n long (traced way_back)
+    forest_small : end.forest < 256
+    forest_small = small_forest B given s end.place end.forest Q.edges Q.from come
+
+    ends : {path path' : List ℕ} {n : ℕ} → length path ≡ 379 → ((t : LedIn end.place Q) → Traced t.w end.place path path' n)
+        → EndsIn B given path' n end.forest × (length path' ≡ 379)
+    ends {path} {path'} {n} long traced = ends_there B given s end.place end.forest Q.edges Q.from come path path' n long (traced way_back)
 
   -- where it did not
-  module _ (queue from : List ℕ) {r : Outcome} {n : ℕ} (told : (t : Asked) → Searched t.given queue from r)
-      (is : r ≡ Stuck n) where
-    abbrev all_waiting : Queued n queue
-    all_waiting = waits book given s n queue from (come queue from told is)
+  module _ (told : (t : SoughtIn B given T) → SearchedIn t Q None) where
+    stuck : Comes (λ w. (Q.size ≡ length w.queue) × HoldsWaiting w Q.edges Q.from) going (searching (offered B given) (forests_for B) (next B))
+    stuck = searched B given s Q.edges Q.from Q.size None (told asked)
+
+    abbrev all_waiting : QueuedIn Q
+    all_waiting = waits B given s Q.size Q.edges Q.from stuck
 
     fails : {list listed : List ℕ} {len : ℕ} → length listed ≡ length list
-        → ((t : Queued n queue) → CircuitListed t.w t.d.m n list listed len) → Fails book given list listed len × (len < 65536)
-    fails {list} {listed} {len} long circuit = fails_there book given s n queue from (come queue from told is) list listed len long (circuit all_waiting)
+        → ((t : QueuedIn Q) → CircuitListed t.w t.d.m Q.size list listed len) → Fails B given list listed len × (len < 65536)
+    fails {list} {listed} {len} long circuit = fails_there B given s Q.size Q.edges Q.from stuck list listed len long (circuit all_waiting)
 
-pub overflow_add-number : goal.overflow_add-number
-overflow_add-number c =
-    let few = (sound_head (book_of c.args.head c.args.ones.now c.args.others.now c.args.colours.now c.args.forests.now) c.requires.4.sound).edges in
-    search rules
-
-pub search-r-requires : goal.search-r-requires
-search-r-requires c = (
-  c.requires.0,
-  c.requires.1,
-  asked c.args.head c.args.u c.args.v c.args.colour c.args.ones.now c.args.others.now c.args.colours.now c.args.forests.now c.requires.4,
-)
+pub search-requires : goal.search-requires
+search-requires c = sought c.args.book.now c.args.edge c.requires.seekable
 
 pub trail-n-requires : goal.trail-n-requires
-trail-n-requires c = (
-  c.requires.2,
-  way_back c.args.head c.args.u c.args.v c.args.colour c.args.ones.now c.args.others.now c.args.colours.now c.args.forests.now c.requires.4
-      _ _ c.search-r.ensures c.in-Found.is,
-)
+trail-n-requires c =
+    way_back c.args.book.now c.args.edge c.args.tables.now c.requires.seekable c.search.new.queue c.in-Some.end c.in-Some.ensures
 
 pub overflow_cast-result : goal.overflow_cast-result
 overflow_cast-result c =
     let small =
-    forest_small c.args.head c.args.u c.args.v c.args.colour c.args.ones.now c.args.others.now c.args.colours.now c.args.forests.now c.requires.4
-    _ _ c.search-r.ensures c.in-Found.is in
+    forest_small c.args.book.now c.args.edge c.args.tables.now c.requires.seekable c.search.new.queue c.in-Some.end c.in-Some.ensures in
     search (rules, small)
 
-pub returns-in-Found : goal.returns-in-Found
-returns-in-Found c =
-    let places =
-    (come c.args.head c.args.u c.args.v c.args.colour c.args.ones.now c.args.others.now c.args.colours.now c.args.forests.now c.requires.4
-    _ _ c.search-r.ensures c.in-Found.is).holds.places in
-    let there = λ (s : Seekable (book_of c.args.head c.args.ones.now c.args.others.now c.args.colours.now c.args.forests.now) c.args.u c.args.v c.args.root.now c.args.way.now c.args.edge.now).
-    ends c.args.head c.args.u c.args.v c.args.colour c.args.ones.now c.args.others.now c.args.colours.now c.args.forests.now s
-    _ _ c.search-r.ensures c.in-Found.is c.requires.2 c.trail-n.ensures in
-    (places.0, places.1, (there c.requires.4).1, λ s. ((there s).0, refl))
+pub invariant_of-scratch : goal.invariant_of-scratch
+invariant_of-scratch c =
+    record {
+      path_long =
+          (ends c.args.book.now c.args.edge c.args.tables.now c.requires.seekable c.search.new.queue c.in-Some.end c.in-Some.ensures
+          c.args.scratch.now.path_long c.trail-n.ensures).1;
+    }
+
+pub returns-in-Some : goal.returns-in-Some
+returns-in-Some c = (
+  (ends c.args.book.now c.args.edge c.args.tables.now c.requires.seekable c.search.new.queue c.in-Some.end c.in-Some.ensures
+      c.args.scratch.now.path_long c.trail-n.ensures).0,
+  refl,
+)
 
 pub circuit-m-requires : goal.circuit-m-requires
 circuit-m-requires c = (
-  c.requires.3,
-  all_waiting c.args.head c.args.u c.args.v c.args.colour c.args.ones.now c.args.others.now c.args.colours.now c.args.forests.now c.requires.4
-      _ _ c.search-r.ensures c.in-Stuck.is,
+  c.requires.room,
+  all_waiting c.args.book.now c.args.edge c.args.tables.now c.requires.seekable c.search.new.queue c.in-None.ensures,
 )
 
-pub overflow_cast-result-in-Stuck : goal.overflow_cast-result-in-Stuck
-overflow_cast-result-in-Stuck c =
+pub overflow_cast-result-in-None : goal.overflow_cast-result-in-None
+overflow_cast-result-in-None c =
     let small =
-    (fails c.args.head c.args.u c.args.v c.args.colour c.args.ones.now c.args.others.now c.args.colours.now c.args.forests.now c.requires.4
-    _ _ c.search-r.ensures c.in-Stuck.is c.circuit-m.auto.list c.circuit-m.ensures).1 in
+    (fails c.args.book.now c.args.edge c.args.tables.now c.requires.seekable c.search.new.queue c.in-None.ensures
+    c.circuit-m.auto.list c.circuit-m.ensures).1 in
     search (rules, small)
 
-pub returns-in-Stuck : goal.returns-in-Stuck
-returns-in-Stuck c =
-    let places =
-    (come c.args.head c.args.u c.args.v c.args.colour c.args.ones.now c.args.others.now c.args.colours.now c.args.forests.now c.requires.4
-    _ _ c.search-r.ensures c.in-Stuck.is).holds.1.places in (
-      places.0,
-      places.1,
-      c.requires.2,
-      λ s.
-          (fails c.args.head c.args.u c.args.v c.args.colour c.args.ones.now c.args.others.now c.args.colours.now c.args.forests.now s
-          _ _ c.search-r.ensures c.in-Stuck.is c.circuit-m.auto.list c.circuit-m.ensures).0,
-    )
+pub returns-in-None : goal.returns-in-None
+returns-in-None c =
+    (fails c.args.book.now c.args.edge c.args.tables.now c.requires.seekable c.search.new.queue c.in-None.ensures
+    c.circuit-m.auto.list c.circuit-m.ensures).0

@@ -14,7 +14,7 @@ class_of-word-requires c =
 
 pub lowest-requires : goal.lowest-requires
 lowest-requires c =
-    class_not_empty c.args.root.now c.args.who.now c.requires.seated c.args.j c.args.n (c.loop-v.v + 1)
+    class_not_empty c.args.labels.now.root c.args.labels.now.who c.requires.seated c.args.j c.args.n (c.loop-v.v + 1)
     c.class_of-word.result c.requires.j_bound.0 c.requires.j_bound.1.0 (omega arith) c.class_of-word.ensures
 
 pub overflow_add-list : goal.overflow_add-list
@@ -28,8 +28,8 @@ bounds-list-v c = omega (arith, c.loop-v.invariant.as_long)
 
 pub loop-v-preserved : goal.loop-v-preserved
 loop-v-preserved c =
-    let root = c.args.root.now in
-    let who = c.args.who.now in
+    let root = c.args.labels.now.root in
+    let who = c.args.labels.now.who in
     let j = c.args.j in
     let n = c.args.n in
     listing_more (omega arith) c.requires.j_bound.1.1

@@ -9,15 +9,15 @@ use Rattle.groups.proofs.remains.Goals as goal
 pub same_labels-requires : goal.same_labels-requires
 unfolding at
 same_labels-requires c =
-    let few =
-    either_most (get_or c.args.colours.now c.args.e 0 =? 1) c.args.red c.args.black 6 c.requires.e_bound.1.0 c.requires.e_bound.1.1 in
-    let one = c.wide-u.ensures in
-    let other = c.wide-v.ensures in
-    (omega (arith, few, c.limit-j.ensures), (omega (arith, c.requires.fact, one, other), omega (arith, c.requires.fact, one, other)))
+    let limits = c.args.limits in
+    let few = either_most (get_or c.args.book.now.colours c.args.e 0 =? 1) limits.red limits.black 6 limits.red_few limits.black_few in
+    let one = c.from-u.ensures in
+    let other = c.from-v.ensures in
+    (omega (arith, few, c.of-j.ensures), (omega (arith, c.requires.ends, one, other), omega (arith, c.requires.ends, one, other)))
 
 pub returns : goal.returns
 returns c =
+    let book = c.args.book.now in
     c.same_labels.ensures
-    ∙ stays_at c.args.root.now c.args.ones.now c.args.others.now c.args.colours.now c.args.red
-    c.args.black c.args.e c.limit-j.result c.wide-u.result c.wide-v.result c.limit-j.ensures
-    c.wide-u.ensures c.wide-v.ensures
+    ∙ stays_at c.args.labels.now.root book.ones book.others book.colours c.args.limits.red c.args.limits.black c.args.e c.of-j.result
+    c.from-u.result c.from-v.result c.of-j.ensures c.from-u.ensures c.from-v.ensures

@@ -1,12 +1,11 @@
 -- What `shrink` keeps true from turn to turn, and what its turns count down.
-use Rattle.labels.specs.Rows.{Long}
 use Rattle.groups.proofs.Judging.{left_over}
 use Rattle.groups.proofs.Shrinking.{Shrinking}
 use Rattle.groups.proofs.shrink.Given as goal
 
-abbrev pub invariant-loop-red : goal.invariant-loop-red
-invariant-loop-red l =
-    Shrinking l.count l.ones l.others l.colours l.red l.black l.initial.left l.left × (Long l.root × Long l.who)
+abbrev pub invariant-loop-limits : goal.invariant-loop-limits
+invariant-loop-limits l =
+    Shrinking l.book.count l.book.ones l.book.others l.book.colours l.limits.red l.limits.black l.initial.left l.left
 
-abbrev pub decreases-loop-red : goal.decreases-loop-red
-decreases-loop-red l = left_over l.count l.left
+abbrev pub decreases-loop-limits : goal.decreases-loop-limits
+decreases-loop-limits l = left_over l.book.count l.left

@@ -4,4 +4,4 @@ use Rattle.lines.proofs.Adding.{adds_part}
 use Rattle.lines.proofs.add_book_line.Goals as goal
 
 pub returns : goal.returns
-returns c = adds_part _ _ (omega arith) c.book_line-more.ensures
+returns c = adds_part _ _ (omega arith) c.book_line.ensures

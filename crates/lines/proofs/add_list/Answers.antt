@@ -1,29 +1,30 @@
 -- `lines::add_list`: its rounds add the numbers one by one (Rounds.antt, Listing.antt).
 use native.Mathlib.Omega.{arith}
 use mathlib.Core.Path.{ap}
+use lib.Seq.{take-length}
+use Rattle.text.specs.Lines.{listed}
 use Rattle.lines.specs.Adding.{item}
-use Rattle.lines.proofs.Rounds.{rounds_none, rounds_room, rounds_more, rounds_all, rounds_length}
-use Rattle.lines.proofs.Listing.{numbers_pieces}
+use Rattle.lines.proofs.Adding.{adds_as}
+use Rattle.lines.proofs.Rounds.{rounds_none, rounds_room, rounds_more, rounds_all}
+use Rattle.lines.proofs.Listing.{numbers_pieces, numbers_room}
 use Rattle.lines.proofs.add_list.Goals as goal
 
 pub loop-i-init : goal.loop-i-init
-loop-i-init c =
-    rounds_none (numbers_pieces c.args.list.now c.args.n c.requires.n_in_bounds) (omega (arith, c.requires.list_in_bounds))
+loop-i-init c = rounds_none (numbers_pieces c.args.list.now) (omega (arith, c.requires))
 
 pub add_item-next-requires : goal.add_item-next-requires
 add_item-next-requires c =
-    rounds_room (numbers_pieces c.args.list.now c.args.n c.requires.n_in_bounds) c.loop-i.invariant c.requires.list_in_bounds
-    c.loop-i-test.true (item c.loop-i.i c.wide.result) (ap (item c.loop-i.i) c.wide.ensures)
+    let list = c.args.list.now in
+    rounds_room (numbers_pieces list) c.loop-i.invariant (numbers_room list _ _ c.requires) c.loop-i-test.true _ (ap (item c.loop-i.i) c.from.ensures)
 
 pub loop-i-preserved : goal.loop-i-preserved
 loop-i-preserved c =
-    rounds_more (numbers_pieces c.args.list.now c.args.n c.requires.n_in_bounds) c.loop-i.invariant c.requires.list_in_bounds
-    c.loop-i-test.true (item c.loop-i.i c.wide.result) (ap (item c.loop-i.i) c.wide.ensures) c.add_item-next.ensures
-
-pub shape_of-buffer : goal.shape_of-buffer
-shape_of-buffer c =
-    rounds_length (numbers_pieces c.args.list.now c.args.n c.requires.n_in_bounds) c.loop-i.invariant c.requires.list_in_bounds
+    let list = c.args.list.now in
+    rounds_more (numbers_pieces list) c.loop-i.invariant (numbers_room list _ _ c.requires) c.loop-i-test.true _ (ap (item c.loop-i.i) c.from.ensures)
+    c.add_item-next.ensures
 
 pub returns : goal.returns
 returns c =
-    rounds_all (numbers_pieces c.args.list.now c.args.n c.requires.n_in_bounds) c.loop-i.invariant c.requires.list_in_bounds c.loop-i-test.false
+    let list = c.args.list.now in
+    adds_as (ap listed (take-length list))
+    (rounds_all (numbers_pieces list) c.loop-i.invariant (numbers_room list _ _ c.requires) c.loop-i-test.false)

@@ -1,9 +1,12 @@
 -- `moving::exchange`: the swap in the tables, and the forest of y stored for x.
+use Rattle.std.proofs.Common.{◌∙◌}
 use Rattle.moving.proofs.Walking.{exchange_done}
 use Rattle.moving.proofs.exchange.Goals as goal
 
-pub returns : goal.returns
-returns c =
-    exchange_done c.args.x c.args.y c.args.ones.now c.args.others.now c.args.forests.now c.args.way.now
-    c.args.edge.now _ _ _ c.read-f.result c.read-u.result c.read-v.result
-    c.read-f.ensures c.read-u.ensures c.read-v.ensures c.swap.ensures c.store.ensures
+pub returns-clause-exchanges : goal.returns-clause-exchanges
+returns-clause-exchanges c =
+    let b = c.args.book.now in
+    let t = c.args.tables.now in
+    exchange_done c.args.x c.args.y b.ones b.others b.forests t.way t.edge _ _ _ c.read-f.result c.from.result c.from-2.result
+    c.from-3.result c.read-f.ensures (c.from.ensures ∙ c.read-f.ensures) (c.from-2.ensures ∙ c.read-u.ensures)
+    (c.from-3.ensures ∙ c.read-v.ensures) c.swap.ensures.swaps c.store.ensures

@@ -1,11 +1,14 @@
--- What `replant` keeps true from turn to turn, and what its turns count down.
-use Rattle.moving.specs.Moves.{Replanting}
+-- What `replant` keeps true from turn to turn: some edges of the path are still to move, and nothing but the forests and the two lists
+-- of the tables that a swap writes has changed.
+use Rattle.std.proofs.Common.{◌≡◌, reverse}
+use Rattle.moving.specs.Along.{Replants}
 use Rattle.moving.proofs.Walking.{Walking}
 use Rattle.moving.proofs.replant.Given as goal
 
-abbrev pub invariant-loop-i : goal.invariant-loop-i
-invariant-loop-i l =
-    (t : Replanting l.n l.number l.found l.path l.ones l.others l.initial.forests l.root l.initial.way l.who l.initial.edge l.size) → Walking t l.forests l.way l.edge l.i l.x
-
-abbrev pub decreases-loop-i : goal.decreases-loop-i
-decreases-loop-i l = l.i
+abbrev pub invariant-loop-y : goal.invariant-loop-y
+invariant-loop-y l =
+    ((t : Replants l.number l.found l.path l.fn.book l.fn.tables)
+    → Walking t l.book.forests l.tables.way l.tables.edge (reverse l.y-iterator.iter.rest.now) l.x)
+    × (l.book ≡ record l.fn.book { forests = l.book.forests })
+    × (l.tables.labels ≡ l.fn.tables.labels)
+    × (l.tables.size ≡ l.fn.tables.size)

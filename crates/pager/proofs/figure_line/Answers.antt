@@ -9,20 +9,20 @@ use Rattle.pager.proofs.figure_line.Goals as goal
 pub returns-in-0 : goal.returns-in-0
 returns-in-0 c =
     let a = c.args in
-    puts_nth (figures (design_of a.book) (kept_of a.book)) a.j 0 c.in-0.is (puts_of _ refl c.free_line.ensures)
+    puts_nth (figures (design_of a.source.book.now) (kept_of a.source.book.now)) a.j 0 c.in-0.is (puts_of _ refl c.free_line.ensures)
 
 pub returns-in-1 : goal.returns-in-1
 returns-in-1 c =
     let a = c.args in
-    puts_nth (figures (design_of a.book) (kept_of a.book)) a.j 1 c.in-1.is (puts_of _ refl c.dropped_line.ensures)
+    puts_nth (figures (design_of a.source.book.now) (kept_of a.source.book.now)) a.j 1 c.in-1.is (puts_of _ refl c.dropped_line.ensures)
 
 pub returns-in-2 : goal.returns-in-2
 returns-in-2 c =
     let a = c.args in
-    puts_nth (figures (design_of a.book) (kept_of a.book)) a.j 2 c.in-2.is (puts_of _ refl c.judged_line.ensures)
+    puts_nth (figures (design_of a.source.book.now) (kept_of a.source.book.now)) a.j 2 c.in-2.is (puts_of _ refl c.judged_line.ensures)
 
 pub returns-in_default : goal.returns-in_default
 returns-in_default c =
     let a = c.args in
-    puts_nth (figures (design_of a.book) (kept_of a.book)) a.j 3 (omega (arith, c.in_default, c.requires.1.0))
+    puts_nth (figures (design_of a.source.book.now) (kept_of a.source.book.now)) a.j 3 (omega (arith, c.in_default, c.requires))
     c.groups_line.ensures

@@ -1,5 +1,4 @@
 -- `pager::judged_line`: the verdict on the two figures of the book (crate book), in a line.
-use native.Mathlib.Omega.{arith}
 use mathlib.Core.Path.{◌∙◌, ap, ap₂}
 use mathlib.Core.List.{◌∷◌, [], ◌++◌}
 use Rattle.rule.specs.declared.Verdict.{Verdict}
@@ -8,9 +7,6 @@ use Rattle.text.specs.Lines.{LF}
 use Rattle.text.proofs.Overwrites.{writes_as}
 use Rattle.reports.specs.Keys.{key_verdict, word_of}
 use Rattle.pager.proofs.judged_line.Goals as goal
-
-pub verdict_line-requires : goal.verdict_line-requires
-verdict_line-requires c = omega (arith, c.requires.1)
 
 pub returns : goal.returns
 unfolding verdict

@@ -1,18 +1,22 @@
 -- `pager::kept_after`: an edge with a forest adds one (Tallies.antt).
-use borrow.Author.Rules.{rules}
+use native.Mathlib.Omega.{arith}
+use mathlib.Core.Path.{sym, ◌∙◌}
 use Rattle.theory.proofs.Legal.Sound.{sound_head}
 use Rattle.pager.proofs.Tallies.{forest_some, tally_implied, tally_kept}
 use Rattle.pager.proofs.kept_after.Goals as goal
 
-pub bounds-book-at : goal.bounds-book-at
-bounds-book-at c =
-    let few = (sound_head c.args.book c.requires.0).edges in
-    search (rules, few)
+pub returns-then-forest-eq0 : goal.returns-then-forest-eq0
+returns-then-forest-eq0 c =
+    let place = c.args.place in
+    tally_implied place.source.book.now place.line place.kept place.tally (sym c.forest_at-forest.ensures ∙ c.if-forest-eq0.true)
 
-pub returns-then-book-at-eq0 : goal.returns-then-book-at-eq0
-returns-then-book-at-eq0 c =
-    tally_implied c.args.book c.args.i c.args.kept c.requires.1.0 c.if-book-at-eq0.true
+pub overflow_add-result : goal.overflow_add-result
+overflow_add-result c =
+    let place = c.args.place in
+    record { fits = omega (arith, place.tally.few, c.if-count-i.false, (sound_head place.source.book.now place.source.sound).edges) }
 
 pub returns : goal.returns
 returns c =
-    tally_kept c.args.book c.args.i c.args.kept c.requires.1.0 c.if-count-i.false (forest_some c.args.book c.args.i c.if-book-at-eq0.false)
+    let place = c.args.place in
+    tally_kept place.source.book.now place.line place.kept place.tally c.if-count-i.false
+    (forest_some place.source.book.now place.line (λ q. c.if-forest-eq0.false (c.forest_at-forest.ensures ∙ q)))

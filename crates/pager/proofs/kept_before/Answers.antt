@@ -6,8 +6,8 @@ use Rattle.pager.proofs.kept_before.Goals as goal
 
 pub kept-requires : goal.kept-requires
 kept-requires c =
-    le_trans c.if-count-i.false (sound_head c.args.book c.requires).edges
+    le_trans c.if-count-i.false (sound_head c.args.source.book.now c.args.source.sound).edges
 
 pub returns : goal.returns
 returns c =
-    tally_counted c.args.book c.args.i c.kept.result c.if-count-i.false c.kept.ensures
+    tally_counted c.args.source.book.now c.args.i c.kept.result c.if-count-i.false c.kept.ensures

@@ -7,8 +7,8 @@ use Rattle.printing.specs.Sending.{all_lines}
 use Rattle.printing.proofs.Turns.{UnderWay}
 use Rattle.printing.proofs.send_pages.Given as goal
 
-abbrev pub invariant-loop-sent : goal.invariant-loop-sent
-invariant-loop-sent l = ((front : List ℕ) × UnderWay l.initial.sent front l.sent) × (length l.buffer ≡ length l.initial.buffer)
+abbrev pub invariant-loop-further : goal.invariant-loop-further
+invariant-loop-further l = ((front : List ℕ) × UnderWay l.initial.sent front l.sent) × (length l.buffer ≡ length l.initial.buffer)
 
-abbrev pub decreases-loop-sent : goal.decreases-loop-sent
-decreases-loop-sent l = all_lines l.initial.sent - l.sent.state.line
+abbrev pub decreases-loop-further : goal.decreases-loop-further
+decreases-loop-further l = all_lines l.initial.sent - l.sent.state.line

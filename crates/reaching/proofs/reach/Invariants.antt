@@ -1,11 +1,11 @@
--- What `reach` keeps true from turn to turn, and what its turns count down.
+-- What `reach` keeps true from turn to turn.
+use mathlib.Core.Path.{◌≡◌}
 use Rattle.reaching.specs.Words.{standing_at, Coming}
 use Rattle.reaching.proofs.Coming.{Reaching}
 use Rattle.reaching.proofs.reach.Given as goal
 
-abbrev pub invariant-loop-left : goal.invariant-loop-left
-invariant-loop-left l =
-    (t : Coming (standing_at l.edge l.base) l.word l.size 379) → Reaching (standing_at l.edge l.base) t.edges t.most l.size l.place l.initial.queue l.initial.from l.queue l.from l.left l.n
-
-abbrev pub decreases-loop-left : goal.decreases-loop-left
-decreases-loop-left l = l.left
+abbrev pub invariant-loop-t : goal.invariant-loop-t
+invariant-loop-t l =
+    (l.queue.seen ≡ l.initial.queue.seen)
+    × ((t : Coming (standing_at l.edge l.base) l.word l.initial.queue.size 379)
+    → Reaching (standing_at l.edge l.base) t.edges t.most l.initial.queue.size l.place l.initial.queue.edges l.initial.queue.from l.queue.edges l.queue.from l.t-iterator.left l.queue.size)

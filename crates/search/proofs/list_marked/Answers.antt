@@ -5,27 +5,18 @@ use Rattle.search.proofs.MarkedList.{word_comes, no_word, next_word, all_words}
 use Rattle.search.proofs.list_marked.Goals as goal
 
 pub loop-i-init : goal.loop-i-init
-loop-i-init c = (omega arith, λ t. no_word c.args.marks.now t)
+loop-i-init c t = no_word c.args.marks.now t
 
 pub list_word-n-requires : goal.list_word-n-requires
 list_word-n-requires c =
-    let marks = c.args.marks.now in
     let t = c.requires in
-    let r = c.loop-i.invariant.1 t in
-    (omega arith, word_comes marks t c.loop-i.i (laid_length r.laid) r.counts)
+    let r = c.loop-i.invariant t in
+    (omega arith, word_comes c.args.marks.now t c.loop-i.i (laid_length r.laid) r.counts)
 
 pub loop-i-preserved : goal.loop-i-preserved
-loop-i-preserved c =
-    let marks = c.args.marks.now in (
-      omega arith,
-      λ t.
-          let r = c.loop-i.invariant.1 t in
-          next_word marks t c.loop-i.i r
-          (c.list_word-n.ensures (word_comes marks t c.loop-i.i (laid_length r.laid) r.counts)),
-    )
-
-pub shape_of-list : goal.shape_of-list
-shape_of-list c = laid_length (c.loop-i.invariant.1 c.requires).laid
+loop-i-preserved c t =
+    let r = c.loop-i.invariant t in
+    next_word c.args.marks.now t c.loop-i.i r (c.list_word-n.ensures (word_comes c.args.marks.now t c.loop-i.i (laid_length r.laid) r.counts))
 
 pub returns : goal.returns
-returns c t = all_words c.args.marks.now t c.loop-i.i (omega arith) (c.loop-i.invariant.1 t)
+returns c t = all_words c.args.marks.now t c.loop-i.i (omega arith) (c.loop-i.invariant t)

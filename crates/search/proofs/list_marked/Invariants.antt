@@ -1,5 +1,4 @@
--- What `list_marked` keeps true from turn to turn, and what its turns count down.
-use Prim.Native.Nat.{◌-◌, ◌≤◌}
+-- What `list_marked` keeps true from turn to turn.
 use lib.ListN.{length}
 use Rattle.rule.specs.Sets.{numbers}
 use Rattle.search.specs.Marks.{MarksWritten, Markings}
@@ -8,7 +7,4 @@ use Rattle.search.proofs.list_marked.Given as goal
 
 abbrev pub invariant-loop-i : goal.invariant-loop-i
 invariant-loop-i l =
-    (l.i ≤ 9) × ((t : Markings l.marks (length l.initial.list)) → MarksWritten l.initial.list 0 (numbers (passed l.marks l.i) t.m) l.list l.n)
-
-abbrev pub decreases-loop-i : goal.decreases-loop-i
-decreases-loop-i l = 9 - l.i
+    (t : Markings l.marks (length l.initial.list)) → MarksWritten l.initial.list 0 (numbers (passed l.marks l.i) t.m) l.list l.n

@@ -1,67 +1,27 @@
 -- `search::mark`: the edges at the places passed are marked, and no others (`Marked`).
-use mathlib.Core.Path.{◌≡◌, sym, ◌∙◌, subst}
-use Prim.Native.Nat.{ℕ, ◌+◌, ◌/◌, ◌<◌}
+use mathlib.Core.Path.{◌≡◌, sym, ap, ◌∙◌, subst₂}
+use Prim.Native.Nat.{ℕ, ◌+◌, ◌-◌, ◌/◌, ◌%◌, ◌^◌, ◌<◌}
 use native.Mathlib.Omega.{arith}
 use lib.Bits.{bit_or}
-use lib.ListN.{get_or, set, length-set}
+use lib.ListN.{get_or, set, take, drop, length-take}
+use lib.Seq.{get_or-take}
+use Rattle.std.proofs.lemmas.Grind.{get_or_after_one}
 use Rattle.search.specs.Marks.{Marked}
-use Rattle.search.proofs.Marking.{none_marked, one_marked}
+use Rattle.search.proofs.Marking.{one_marked}
 use Rattle.search.proofs.mark.Goals as goal
 
-pub loop-p-init : goal.loop-p-init
-loop-p-init c = (omega arith, c.requires.0, c.requires.2, none_marked c.args.queue.now c.args.marks.now c.requires.4)
-
-pub overflow_cast-i : goal.overflow_cast-i
-overflow_cast-i c =
-    let small : get_or c.args.queue.now c.loop-p.p 0 < 576 =
-    c.requires.3 c.loop-p.p c.loop-p.invariant.0 c.loop-p-test.true in
-    omega (arith, small)
-
-pub overflow_cast-e : goal.overflow_cast-e
-overflow_cast-e c =
-    let small : get_or c.args.queue.now c.loop-p.p 0 < 576 =
-    c.requires.3 c.loop-p.p c.loop-p.invariant.0 c.loop-p-test.true in
-    omega (arith, small)
-
-pub offset_bounds-marks-i : goal.offset_bounds-marks-i
-offset_bounds-marks-i c =
-    let small : get_or c.args.queue.now c.loop-p.p 0 < 576 =
-    c.requires.3 c.loop-p.p c.loop-p.invariant.0 c.loop-p-test.true in
-    omega (arith, small)
-
-pub bounds-marks-i : goal.bounds-marks-i
-bounds-marks-i c =
-    let small : get_or c.args.queue.now c.loop-p.p 0 < 576 =
-    c.requires.3 c.loop-p.p c.loop-p.invariant.0 c.loop-p-test.true in
-    omega (arith, small)
-
-pub offset_bounds-marks-i-in-loop-p : goal.offset_bounds-marks-i-in-loop-p
-offset_bounds-marks-i-in-loop-p c =
-    let small : get_or c.args.queue.now c.loop-p.p 0 < 576 =
-    c.requires.3 c.loop-p.p c.loop-p.invariant.0 c.loop-p-test.true in
-    omega (arith, small)
-
-pub bounds-marks-i-in-loop-p : goal.bounds-marks-i-in-loop-p
-bounds-marks-i-in-loop-p c =
-    let small : get_or c.args.queue.now c.loop-p.p 0 < 576 =
-    c.requires.3 c.loop-p.p c.loop-p.invariant.0 c.loop-p-test.true in
-    omega (arith, small)
-
-pub loop-p-preserved : goal.loop-p-preserved
-loop-p-preserved c =
-    let small : get_or c.args.queue.now c.loop-p.p 0 < 576 =
-    c.requires.3 c.loop-p.p c.loop-p.invariant.0 c.loop-p-test.true in
-    let queue = c.args.queue.now in
-    let marks = c.loop-p.marks in
-    let e = get_or queue c.loop-p.p 0 in (
-      omega arith,
-      omega arith,
-      length-set marks (e / 64) _ ∙ c.loop-p.invariant.2,
-      subst (λ (b : ℕ). Marked queue (c.loop-p.p + 1) (set marks (e / 64) (bit_or (get_or marks (e / 64) 0) b))) (sym c.one-bit.ensures)
-          (one_marked c.loop-p.p c.loop-p.invariant.0 c.loop-p.invariant.3 (omega (arith, small))),
-    )
-
-pub returns : goal.returns
-returns c =
-    let over : c.loop-p.p ≡ c.args.n = omega arith in
-    subst (λ (n : ℕ). Marked c.args.queue.now n c.loop-p.marks) over c.loop-p.invariant.3
+pub loop-e-preserved : goal.loop-e-preserved
+loop-e-preserved c =
+    let edges = c.args.queue.now.edges in
+    let marks = c.loop-e.marks in
+    let n = c.args.queue.now.size - 1 in
+    let i = c.loop-e.e-index in
+    let q = i + 1 in
+    let h : i < n = omega (arith, length-take n (drop 1 edges)) in
+    let at : q ≡ 1 + i = omega arith in
+    let same : get_or (take n (drop 1 edges)) i 0 ≡ get_or edges q 0 =
+    get_or-take n (drop 1 edges) i 0 h ∙ get_or_after_one edges i 0 ∙ ap (λ (z : ℕ). get_or edges z 0) (sym at) in
+    let small : get_or edges q 0 < 576 = c.requires.1 q (omega arith) (omega arith) in
+    subst₂ (λ (j b : ℕ). Marked edges (q + 1) (set marks j (bit_or (get_or marks j 0) b))) (sym (c.from-i.ensures ∙ ap (λ (z : ℕ). z / 64) same))
+    (sym (c.one.ensures ∙ ap (λ (z : ℕ). 2 ^ z) (c.from.ensures ∙ ap (λ (z : ℕ). z % 64) same)))
+    (one_marked q (omega arith) c.loop-e.invariant (omega (arith, small)))

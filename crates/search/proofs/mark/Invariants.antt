@@ -1,12 +1,7 @@
--- What `mark` keeps true from turn to turn, and what its turns count down.
-use mathlib.Core.Path.{◌≡◌}
-use Prim.Native.Nat.{◌-◌, ◌≤◌}
-use lib.ListN.{length}
+-- What `mark` keeps true from turn to turn.
+use Prim.Native.Nat.{◌+◌}
 use Rattle.search.specs.Marks.{Marked}
 use Rattle.search.proofs.mark.Given as goal
 
-abbrev pub invariant-loop-p : goal.invariant-loop-p
-invariant-loop-p l = (1 ≤ l.p) × (l.p ≤ l.n) × (length l.marks ≡ 9) × Marked l.queue l.p l.marks
-
-abbrev pub decreases-loop-p : goal.decreases-loop-p
-decreases-loop-p l = l.n - l.p
+abbrev pub invariant-loop-e : goal.invariant-loop-e
+invariant-loop-e l = Marked l.queue.edges (l.e-index + 1) l.marks

@@ -1,15 +1,20 @@
--- `text::line_end` meets its contract: its loop keeps `Ending`, of proofs/LineEnds.antt. Assumes nothing.
-use Rattle.text.proofs.LineEnds.{ending_none, ending_more, ending_lf, ending_all}
+-- `text::line_end` meets its contract: the search ends where the line does (proofs/LineEnds.antt). Assumes nothing.
+use mathlib.Core.Path.{sym, ◌∙◌}
+use Rattle.std.proofs.Common.{rules, tests}
+use Rattle.std.proofs.lemmas.Iterator.{YieldsList-from_slice}
+use Rattle.std.proofs.lemmas.Iterator.Search.{position_from_yields_List}
+use Rattle.text.specs.Lines.{LF}
+use Rattle.std.proofs.Common.{nat_eq}
+use Rattle.text.proofs.Fields.{part_rest}
+use Rattle.text.proofs.LineEnds.{ends_at, ends_last}
 use Rattle.text.proofs.line_end.Goals as goal
 
-pub loop-end-init : goal.loop-end-init
-loop-end-init c = ending_none _ _ c.requires
+pub returns-in-Some : goal.returns-in-Some
+returns-in-Some c =
+    let found = position_from_yields_List (λ x. nat_eq x LF) _ _ _ c.position.ensures.ran (YieldsList-from_slice _ c.iter.ensures.rest) (λ x b q k. search (rules, tests)) in
+    ends_at c.args.text.now _ c.args.at (part_rest c.args.text.now c.args.at) _ (sym found ∙ c.in-Some.is)
 
-pub returns-then-text-here-eq10 : goal.returns-then-text-here-eq10
-returns-then-text-here-eq10 c = ending_lf c.loop-end.invariant c.loop-end-test.true c.if-text-here-eq10.true
-
-pub loop-end-preserved : goal.loop-end-preserved
-loop-end-preserved c = ending_more c.loop-end.invariant c.loop-end-test.true c.if-text-here-eq10.false
-
-pub returns : goal.returns
-returns c = ending_all c.loop-end.invariant c.loop-end-test.false
+pub returns-in-None : goal.returns-in-None
+returns-in-None c =
+    let found = position_from_yields_List (λ x. nat_eq x LF) _ _ _ c.position.ensures.ran (YieldsList-from_slice _ c.iter.ensures.rest) (λ x b q k. search (rules, tests)) in
+    ends_last c.args.text.now _ c.args.at (part_rest c.args.text.now c.args.at) c.requires (sym found ∙ c.in-None.is)

@@ -1,14 +1,14 @@
--- `text::within` meets its contract: the test picks the case of `within`. Assumes nothing.
-use mathlib.Core.Path.{sym}
-use Rattle.rule.specs.Sets.{◌≤?◌}
-use Rattle.text.specs.Judging.{within}
-use Rattle.text.proofs.Picks.{pick_lt, pick_ge}
+-- `text::within` meets its contract: the library's test is `within`. Assumes nothing.
+use native.Mathlib.Omega.{arith}
+use mathlib.Core.Path.{◌≡◌, ◌∙◌}
+use mathlib.Core.Bool.{◌&&◌}
+use lib.Dec.{leb}
+use Rattle.text.proofs.Ranges.{within_both}
 use Rattle.text.proofs.within.Goals as goal
 
-pub returns-then-x-low : goal.returns-then-x-low
-unfolding within
-returns-then-x-low c = sym (pick_lt _ _ _ _ c.if-x-low.true)
-
 pub returns : goal.returns
-unfolding within ◌≤?◌
-returns c = sym (pick_ge _ _ _ _ c.if-x-low.false)
+returns c =
+    let new = c.new.ensures in
+    let both : c.contains.result ≡ leb c.args.low c.args.x && leb c.args.x c.args.high =
+    grind (arith, c.contains.ensures.value, new.start, new.end, new.exhausted) in
+    both ∙ within_both _ _ _

@@ -13,7 +13,8 @@ use Rattle.rule.specs.Sets.{Is, ◌and◌, ◌=?◌, Set, In, ◌with◌, ◌wit
 use Rattle.rule.specs.Legal.{Design, Ends, k, Legal, Implies}
 use Rattle.rule.specs.Forests.{limit, kept_in, Arranged}
 use Rattle.rule.specs.Figures.{InGroup}
-use Rattle.rule.specs.Books.{Edge, plus}
+use Rattle.rule.specs.declared.Edge.{Edge}
+use Rattle.rule.specs.Books.{plus}
 use Rattle.rule.proofs.Tests.{is_false, and_make, and_l, and_r, eq_of, eq_is, in_one, without_old, without_ne}
 use Rattle.rule.proofs.Counting.{Within, with_mono}
 use Rattle.theory.specs.Closed.{standing, covers, Closed, greatest}

@@ -8,7 +8,8 @@ use native.Mathlib.Omega.{arith}
 use Rattle.rule.specs.Sets.{Is, Set, In, put, ◌without◌}
 use Rattle.rule.specs.Legal.{Design, k}
 use Rattle.rule.specs.Forests.{limit, in_forest, kept_in, Permitted, Arranged}
-use Rattle.rule.specs.Books.{Edge, plus}
+use Rattle.rule.specs.declared.Edge.{Edge}
+use Rattle.rule.specs.Books.{plus}
 use Rattle.rule.proofs.Tests.{same_test, by_eq, in_split, put_same, put_other, without_old}
 use Rattle.rule.proofs.Counting.{Within}
 use Rattle.theory.specs.Joined.{joined, spans}

@@ -7,7 +7,8 @@ use Rattle.rule.specs.Sets.{Is, Set, In, ◌without◌}
 use Rattle.rule.specs.Legal.{Design}
 use Rattle.rule.specs.Forests.{Chain}
 use Rattle.rule.specs.Forests.Chain.{here, along, back}
-use Rattle.rule.specs.Books.{Edge, plus}
+use Rattle.rule.specs.declared.Edge.{Edge}
+use Rattle.rule.specs.Books.{plus}
 use Rattle.rule.proofs.Tests.{same_test, in_one, in_split, put_same, put_other, without_old}
 use Rattle.theory.specs.Joined.{joined, spans}
 use Rattle.theory.proofs.Joined.Chains.{joined_chain, chain_joined}

@@ -16,7 +16,8 @@ use native.Mathlib.Omega.{arith}
 use Rattle.rule.specs.Sets.{Is, Set, In, ◌with◌, ◌without◌, below}
 use Rattle.rule.specs.Legal.{Design, Ends, Legal, InCircuit, Circuit, Grown}
 use Rattle.rule.specs.Forests.{kept_in}
-use Rattle.rule.specs.Books.{Edge, plus}
+use Rattle.rule.specs.declared.Edge.{Edge}
+use Rattle.rule.specs.Books.{plus}
 use Rattle.rule.proofs.Tests.{cases, by_le, in_split, put_other, with_elim, without_old, without_ne, without_make, below_in, below_lt, below_make}
 use Rattle.rule.proofs.Counting.{Within, with_mono, Agree, numbers_eq}
 use Rattle.rule.proofs.Legality.{legal_sub}

@@ -8,7 +8,8 @@ use Prim.Native.Nat.{ℕ, zero, suc, ◌≤◌, ◌<◌}
 use native.Mathlib.Omega.{arith}
 use Rattle.rule.specs.Sets.{Is, Set, In, put, ◌with◌, below, count}
 use Rattle.rule.specs.Legal.{Design, Ends, Legal, Keeps, Grown}
-use Rattle.rule.specs.Books.{Edge, plus}
+use Rattle.rule.specs.declared.Edge.{Edge}
+use Rattle.rule.specs.Books.{plus}
 use Rattle.rule.proofs.Tests.{cases, never, by_eq, in_split, put_same, put_other, with_self, with_old, with_elim, without_old, below_in, below_lt, below_make}
 use Rattle.rule.proofs.Counting.{Within, with_mono, Agree}
 use Rattle.rule.proofs.Legality.{legal_sub}

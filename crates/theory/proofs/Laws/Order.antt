@@ -14,7 +14,8 @@ use native.Mathlib.Omega.{arith}
 use Rattle.rule.specs.Sets.{Is, Set, In, ◌with◌, one_if, count}
 use Rattle.rule.specs.Legal.{Design, Ends, Legal, Keeps, Grown}
 use Rattle.rule.specs.Figures.{freedom}
-use Rattle.rule.specs.Books.{Edge, plus}
+use Rattle.rule.specs.declared.Edge.{Edge}
+use Rattle.rule.specs.Books.{plus}
 use Rattle.rule.proofs.Tests.{never, with_self, with_old, with_elim}
 use Rattle.rule.proofs.Counting.{count_eq}
 use Rattle.theory.specs.Order.{Renumbered, ImpliedBy}

@@ -6,7 +6,8 @@ use Prim.Native.Nat.{ℕ, suc}
 use native.Mathlib.Omega.{arith}
 use Rattle.rule.specs.Sets.{Is, ◌=?◌, Set, In, ◌with◌, below}
 use Rattle.rule.specs.Legal.{Design, Ends, Legal, Keeps, Grown}
-use Rattle.rule.specs.Books.{Edge, plus}
+use Rattle.rule.specs.declared.Edge.{Edge}
+use Rattle.rule.specs.Books.{plus}
 use Rattle.rule.proofs.Tests.{in_one, in_split, put_same, put_other, with_elim, below_lt}
 use Rattle.rule.proofs.Counting.{Within}
 use Rattle.theory.proofs.Laws.Transport.{Carries, legal_carried}

@@ -12,7 +12,8 @@ use Prim.Native.Nat.{ℕ, suc}
 use native.Mathlib.Omega.{arith}
 use Rattle.rule.specs.Sets.{◌=?◌, In, put}
 use Rattle.rule.specs.Legal.{Design}
-use Rattle.rule.specs.Books.{Edge, plus}
+use Rattle.rule.specs.declared.Edge.{Edge}
+use Rattle.rule.specs.Books.{plus}
 use Rattle.rule.proofs.Tests.{in_one, in_split, put_same, put_other}
 use Rattle.theory.specs.Order.{Renumbered}
 use Rattle.theory.proofs.Laws.Plus.{plus_one, plus_other, plus_red, new_one, new_other, new_red}

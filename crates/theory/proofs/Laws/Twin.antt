@@ -11,7 +11,8 @@ use Prim.Native.Nat.{ℕ, suc}
 use native.Mathlib.Omega.{arith}
 use Rattle.rule.specs.Sets.{Is, ◌=?◌, Set, In, put, ◌with◌, ◌without◌, numbers}
 use Rattle.rule.specs.Legal.{Design, Keeps, Circuit}
-use Rattle.rule.specs.Books.{Edge, plus}
+use Rattle.rule.specs.declared.Edge.{Edge}
+use Rattle.rule.specs.Books.{plus}
 use Rattle.rule.proofs.Tests.{by_eq, put_same, put_other, with_elim, with_self, with_old, without_old, in_one, in_last}
 use Rattle.rule.proofs.Counting.{with_mono}
 use Rattle.rule.proofs.Legality.{legal_sub}

@@ -10,7 +10,8 @@ use Prim.Native.Nat.{ℕ, suc}
 use native.Mathlib.Omega.{arith}
 use Rattle.rule.specs.Sets.{Is, ◌=?◌, Set, In, ◌with◌}
 use Rattle.rule.specs.Legal.{Design, Legal, Grown}
-use Rattle.rule.specs.Books.{Edge, plus}
+use Rattle.rule.specs.declared.Edge.{Edge}
+use Rattle.rule.specs.Books.{plus}
 use Rattle.rule.proofs.Tests.{in_one, put_other, with_self, with_old}
 use Rattle.theory.specs.Order.{ImpliedBy}
 use Rattle.theory.proofs.Laws.Transport.{legal_carried}

@@ -1,9 +1,6 @@
--- `cases::keys::numbers`: the numbers that are due still grow fewer. Assumes nothing.
-use Prim.Native.Nat.{◌-◌}
+-- `cases::keys::numbers`: the numbers so far are below 100,000. Assumes nothing.
+use Rattle.std.proofs.Common.{◌<◌, ◌≤◌, ℕ, get_or}
 use Rattle.cases.proofs.keys.numbers.Given as goal
 
-abbrev pub invariant-loop-i : goal.invariant-loop-i
-invariant-loop-i l = Unit
-
-abbrev pub decreases-loop-i : goal.decreases-loop-i
-decreases-loop-i l = l.due - l.i
+abbrev pub invariant-loop-part : goal.invariant-loop-part
+invariant-loop-part l = (l.count ≤ 5) × ((k d : ℕ) → k < l.count → get_or l.places k d < 100000)

@@ -1,11 +1,6 @@
--- `hostile::lay::once`: each piece takes at least one byte of the line, and no more than are left. Assumes nothing.
-use mathlib.Core.Path.{◌≡◌}
-use Prim.Native.Nat.{◌≤◌, ◌-◌}
+-- `hostile::lay::once`: the bytes left grow fewer. Assumes nothing.
 use lib.ListN.{length}
 use Rattle.hostile.proofs.lay.once.Given as goal
 
-abbrev pub invariant-loop-i : goal.invariant-loop-i
-invariant-loop-i l = (length l.space ≡ length l.initial.space) × (l.i ≤ length l.bytes)
-
-abbrev pub decreases-loop-i : goal.decreases-loop-i
-decreases-loop-i l = length l.bytes - l.i
+abbrev pub decreases-loop-rest : goal.decreases-loop-rest
+decreases-loop-rest l = length l.rest

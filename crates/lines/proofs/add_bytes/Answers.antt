@@ -1,7 +1,0 @@
--- `lines::add_bytes`: what `text::put::bytes` did to the part is said of the whole.
-use native.Mathlib.Omega.{arith}
-use Rattle.lines.proofs.Adding.{adds_part}
-use Rattle.lines.proofs.add_bytes.Goals as goal
-
-pub returns : goal.returns
-returns c = adds_part _ _ (omega arith) c.bytes-more.ensures
