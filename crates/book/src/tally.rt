@@ -18,8 +18,8 @@ pub fn kept(count: u16, forests: &[u8; 512]) -> u16
     first.iter().filter(|forest| **forest != 0).count() as u16
 }
 
-// The freedom of a sound book, and how many of its edges are implied. (`Sound` is a `requires` of both, of `list_groups` in crate groups and of `text_of` in crate
-// writer, and no type: these crates are a host's to call, and a type would ask it to build one. Crate pager has one inside, `Source`.)
+// The freedom of a sound book, and how many of its edges are implied. (`Sound` is a `requires` of both, of `list_groups` in crate groups and of the private `text_of`
+// in crate writer, and no type: README names these crates for use, and a type would ask a caller to build one. Crate pager has one inside, `Source`.)
 pub fn free_of(book: &Book) -> u16
     requires { Sound book.now }
     ensures { result ≡ freedom_of (design_of book.now) (kept_of book.now) }

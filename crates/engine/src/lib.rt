@@ -41,6 +41,8 @@ impl Scratch {
     }
 }
 
+// (Book and tables, here and in crates search, circuits and step, are two parameters and no struct of both: `take` changes both, and crate book fills tables that are
+// not the book's yet. `as`, in this file: the numbers are below 512, and no `From` goes that way.)
 // Seeks a place for an edge. Where there is one, the path has the edges to move, last edge first; where there is none, the list holds the
 // circuit.
 pub fn seek(

@@ -50,9 +50,10 @@ fn remains(book: &Book, labels: &Labels, limits: Limits, e: usize) -> bool
     requires ends { In 64 (at book.now.ones (suc e)) × In 64 (at book.now.others (suc e)) }
     ensures { result ≡ stays_in book.now labels.now limits (suc e) }
 {
-    let j = limits.of(book.colours[e]);
-    let u = usize::from(book.ones[e]);
-    let v = usize::from(book.others[e]);
+    let edge = book.edge(e);
+    let j = limits.of(edge.colour);
+    let u = usize::from(edge.one);
+    let v = usize::from(edge.other);
     same_labels(labels, j, u, v)
 }
 

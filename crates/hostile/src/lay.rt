@@ -60,7 +60,7 @@ fn escaped(x: u8) -> Option<u8> {
     }
 }
 
-// The bytes of a line, once; none where they were not understood.
+// The bytes of a line, once; none where they were not understood. (`while`: a turn takes as many bytes as its piece has; no index is counted.)
 fn once(bytes: &[u8], text: &mut Text) -> Option<()> {
     let mut rest = bytes;
     while !rest.is_empty() {

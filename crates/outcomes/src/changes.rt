@@ -71,6 +71,7 @@ pub fn head([a, b, bodies, count, x]: [usize; 5]) -> Book {
         small(a),
         small(b),
         small(bodies),
+        // (`as`: what is past 65,535 begins again from 0, as the file stdin says.)
         (count % 65536) as u16,
         small(x),
     )

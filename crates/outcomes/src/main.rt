@@ -53,7 +53,7 @@ fn run(rt: &impl Print, file: &[u8]) -> Result<()> {
     println!(rt; "")
 }
 
-// A write that fails ends the program, and is not told, as it never was: what the program does may not change.
+// A write that fails ends the program, and is not told, as it never was. (The writes after it are not tried any more.)
 fn main(rt: HostRuntime) {
     let mut file = [0u8; 65536];
     let n = io::read_full(0, &mut file);

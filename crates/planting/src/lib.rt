@@ -18,7 +18,8 @@ ghost use Rattle.planting.specs.Planted.{CanAdd, Adds, Swaps};
 
 use tables::Tables;
 
-// The words of some bodies change by c in forest f. (Beside `relabel` of crate labels: the walk over the bits is one iterator, and what is left is one assignment each.)
+// The words of some bodies change by c in forest f. (Beside `relabel` of crate labels, an instance of `Applied` too: the walk over the bits is one iterator, and
+// a function of both would take a closure for one assignment.)
 fn change(f: usize, bodies: u64, c: u64, way: &mut [u64; 384])
     requires { In 6 f }
     ensures { Applied (λ w. bit_xor w c) (start f) (bit bodies) way.old way.new }
@@ -30,6 +31,7 @@ fn change(f: usize, bodies: u64, c: u64, way: &mut [u64; 384])
 }
 
 // Edge e, between u and v, which stand in two trees of forest f, is added to it.
+#[inline(always)]
 pub fn add(f: usize, u: usize, v: usize, e: u16, tables: &mut Tables)
     requires { CanAdd f u v tables.old }
     ensures { Adds f u v e tables.old tables.new }

@@ -71,7 +71,7 @@ fn send_page(sent: Sent, buffer: &mut [u8]) -> ControlFlow<Sent, Sent>
     }
 }
 
-// All pages of what was begun, each handed over before the next is asked for.
+// All pages of what was begun, each handed over before the next is asked for. (`loop`: a turn says whether it was the last; no index is counted.)
 fn send_pages(first: Sent, buffer: &mut [u8]) -> Sent
     requires { BeforeTurn first buffer.old × (first.state.line ≡ 0) }
     ensures { LinesSent first result }

@@ -85,10 +85,8 @@ pub fn send(sent: Sent, after: State, lines: &[u8]) -> Sent
         };
     }
     complain(kind, b"the output could not be written whole\n");
-    let before = sent.state;
     Sent {
-        kind,
-        state: before,
         failed: true,
+        ..sent
     }
 }

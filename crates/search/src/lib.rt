@@ -138,7 +138,7 @@ fn list_marked(marks: &[u64; 9], list: &mut [u16]) -> usize
 }
 
 // The circuit: the edges that wait, but for the new one, in the first places of the list, smallest first, and how many they are.
-// (A lent list and a count: the library has no heap.)
+// (A lent list and a count: the library has no heap. Its length is a clause and no array type: what is said of the places past the circuit is said of all of the host's list.)
 pub fn circuit(queue: &Queue, list: &mut [u16]) -> usize
     requires { (378 ≤ length list.old) × QueuedIn queue.now }
     ensures { (t : QueuedIn queue.now) → CircuitListed t.w t.d.m queue.now.size list.old list.new result }

@@ -9,7 +9,7 @@ ghost use Rattle.std.specs.Prelude.{◌≤◌};
 use rule::Book;
 use text::Edges;
 
-// A byte that is no digit counts as 0. (No `Option`: what the program does with such input may not change.)
+// A byte that is no digit counts as 0. (No `Option`: each of the four callers would take 0 for `None`, which is no plainer.)
 fn digit(x: u8) -> usize
     ensures { result ≤ 9 }
 {
@@ -36,10 +36,10 @@ fn offered(read: &Book) -> Book {
     .book;
     let mut list = [0u16; 378];
     for i in 0..512 {
-        let one = usize::from(read.ones[i]);
-        let other = usize::from(read.others[i]);
-        let colour = usize::from(read.colours[i]);
-        book = step::offer(book, one, other, colour, &mut list).book;
+        let edge = read.edge(i);
+        let one = usize::from(edge.one);
+        let other = usize::from(edge.other);
+        book = step::offer(book, one, other, usize::from(edge.colour), &mut list).book;
     }
     book
 }
@@ -74,6 +74,7 @@ fn sum<F: Fn() -> u16>(times: usize, call: F) -> usize
     sum
 }
 
+// (A match on the letter of the input and no enum: it is read once, here.)
 fn repeat(what: u8, times: usize, text: &[u8]) -> usize {
     match what {
         b'k' => sum(times, || figure(&read(text))),
@@ -85,7 +86,7 @@ fn repeat(what: u8, times: usize, text: &[u8]) -> usize {
     }
 }
 
-// A write that fails is not told, as it never was: what the program does may not change.
+// A write that fails is not told, as it never was.
 fn main(rt: HostRuntime) {
     let mut space = [0u8; 8198];
     let n = io::read_full(0, &mut space);

@@ -44,7 +44,7 @@ fn taken(book: &Book, edge: Edge, tables: &mut Tables, list: &mut [u16]) -> Offe
     let mut scratch = Scratch::new();
     let answer = engine::take(&mut longer, edge, tables, &mut scratch, list);
     Offered {
-        answer: answer,
+        answer,
         book: longer,
     }
 }

@@ -43,7 +43,7 @@ pub struct Limits {
     pub ghost black_few: { black ≤ 6 },
 }
 
-// The index of body v in forest f.
+// The index of body v in forest f. (The bounds `In 6 f` and `In 64 v` are clauses, here and above, and no types: a newtype would be unwrapped at every index.)
 pub fn place(f: usize, v: usize) -> usize
     requires { In 6 f × In 64 v }
     ensures { (result ≡ spot f v) × (result < 384) }

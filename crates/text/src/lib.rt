@@ -91,7 +91,7 @@ impl Edges {
     }
 }
 
-// The byte at a place, or 0 past the end: no line has a byte 0.
+// The byte at a place, or 0 past the end: no line has a byte 0. (No `Option`: `get_or` of specs/Readings.antt has 0 there, and every caller compares with another byte.)
 fn byte(s: &[u8], i: usize) -> u8
     ensures { result ≡ get_or s.now i 0 }
 {
@@ -140,7 +140,8 @@ pub fn number(s: &[u8], most: usize) -> Option<Reading>
     taken(value, most)
 }
 
-// The number of one to `most` digits at a place of a text, with the byte `stop` after it.
+// The number of one to `most` digits at a place of a text, with the byte `stop` after it. (A text and a place, here and below, and no part of the text: so say
+// `read_field`, `read_step` and the others of specs/Readings.antt, and `fault` needs the place.)
 #[tactic(auto, using(crate::proofs::Fields::fields))]
 fn field(text: &[u8], at: usize, stop: u8, most: usize) -> Option<Reading>
     requires { (1 ≤ most) × (most ≤ 5) }
