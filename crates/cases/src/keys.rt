@@ -13,7 +13,7 @@ fn number(text: &[u8]) -> Option<usize>
     }
 }
 
-// One to five numbers, with commas between, and nothing else. They are put into the places lent.
+// One to five numbers, with commas between, and nothing else. They are put into the places lent, and the count beside the `for` says how many.
 pub fn numbers<'a>(text: &[u8], places: &'a mut [usize; 5]) -> Option<&'a [usize]>
     ensures { IfSome result (λ xs. All (λ x. x < 100000) xs.now) }
 {

@@ -17,7 +17,7 @@ use rule::Book;
 use tables::Tables;
 
 // The numbers of the edges that have a forest, smallest first, in the first places of the list, and how many they are. n is the answer too: a zip of
-// the list with the edges that a filter leaves would have to be counted once more.
+// the list with the edges that a filter leaves would have to be counted once more. (A count and the whole list: as `kept` of crate book.)
 fn all_kept(count: u16, forests: &[u8; 512], list: &mut [u16]) -> usize
     requires { (count ≤ 512) × (counted (λ e. 0 <? at forests.now e) count ≤ length list.old) }
     ensures { MarksWritten list.old 0 (numbers (λ e. 0 <? at forests.now e) count) list.new result }

@@ -78,7 +78,8 @@ pub fn place_for(book: &Book, edge: Edge, tables: &Tables, list: &mut [u16]) -> 
     seek(book, edge, tables, &mut scratch, list)
 }
 
-// The edge stands in the book behind the others, in no forest.
+// The edge stands in the book behind the others, in no forest. (Beside `Edges::enter` of crate text, as `Book::edge` beside `Edges::edge`: the lists of a text and a book
+// are two types, and here the count is raised and a forest set.)
 fn enter(edge: Edge, book: &mut Book)
     requires room { book.old.count < 512 }
     requires full { Full book.old }

@@ -74,7 +74,7 @@ fn thin(book: &Book, labels: &Labels, limits: Limits, left: &mut [u8; 512]) -> u
 }
 
 // The greatest closed set: passes of deletion until nothing changes.
-// (`loop`: each turn is a pass, and the last is the one that deletes nothing; no index is counted.)
+// (`loop`: each turn is a pass, and the last is the one that deletes nothing; no index is counted. `left` and `labels` are two, as `book` and `limits` are: each pass changes one and is lent the other.)
 pub fn shrink(book: &Book, limits: Limits, left: &mut [u8; 512], labels: &mut Labels)
     requires { GivenIn book.now left.old }
     ensures { ShrunkIn book.now limits left.old left.new labels.new }
@@ -103,7 +103,7 @@ fn class_of(labels: &Labels, j: usize, v: usize) -> u64
 }
 
 // For each of the bodies 1 to n the smallest body that is with it in each of the forests 1 to j.
-// (`as`: at most 64, and u8 has no `From<usize>`.)
+// (`as`: at most 64, and u8 has no `From<usize>`. A list and n: places past n stay, as `ClassesListed` of specs/Classes.antt says.)
 pub fn leaders(labels: &Labels, j: usize, n: usize, list: &mut [u8])
     requires j_bound { (j ≤ 6) × ((n ≤ 64) × (n ≤ length list.old)) }
     requires seated { SeatedIn labels.now }

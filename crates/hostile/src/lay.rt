@@ -5,7 +5,7 @@ ghost use Rattle.std.specs.Prelude.{◌≤◌, ◌<◌, IfSome};
 
 const ROOM: usize = 24576;
 
-// The text of a case so far. What there is no room for is left out.
+// The text of a case so far. What there is no room for is left out. (Bytes and a size: fixed memory.)
 #[derive(Drop)]
 pub struct Text {
     bytes: [u8; ROOM],

@@ -16,7 +16,7 @@ ghost use Rattle.lines.specs.Adding.{Appends, item};
 use rule::{Book, Verdict};
 use text::put;
 
-// ---- from a place on
+// ---- from a place on (a buffer and a place, and no part of it: `Appends` of specs/Adding.antt is about one buffer; docs/DECISIONS.md, point 39)
 
 // One byte.
 pub fn add_byte(buffer: &mut [u8], at: usize, x: u8) -> usize
@@ -127,7 +127,8 @@ fn given_line(book: &Book, e: u16, buffer: &mut [u8]) -> usize
     edge_line(buffer, one, other, edge.colour)
 }
 
-// Line i of the text of a book, counted from 0: the four lines of the head, and then the edges in order.
+// Line i of the text of a book, counted from 0: the four lines of the head, and then the edges in order. (A match on a number: `book_line` of crate reports says which line
+// a number is.)
 pub fn book_line(book: &Book, i: u16, buffer: &mut [u8]) -> usize
     requires i_bound { (i < (book_lines book.now).number) × (book.now.count ≤ 512) }
     requires i_in_bounds { length (book_line book.now i) ≤ length buffer.old }

@@ -28,7 +28,8 @@ fn carry_out(rt: &impl Print, command: Command, book: &mut Book) -> Result<()> {
     Ok(())
 }
 
-// A line that begins a case ends the one before. Every case begins with a book of zeros.
+// A line that begins a case ends the one before. Every case begins with a book of zeros. (A flag beside the book and no `Option`: lines before the first case work on a book
+// too. The walk over lines is hostile's too, with other lines in its match.)
 fn run(rt: &impl Print, file: &[u8]) -> Result<()> {
     let zeros = changes::strewn(0, 0, 0, 0, 0);
     let mut book = zeros;

@@ -130,7 +130,7 @@ fn groups_line(source: Source<'_>, buffer: &mut [u8; 2048]) -> usize
     lines::list_line(buffer, b"groups=", &leaders[..n])
 }
 
-// Line j of the figures of the whole book, counted from 0.
+// Line j of the figures of the whole book, counted from 0. (A match on a number: `figures` of crate reports says which line a number is.)
 fn figure_line(source: Source<'_>, j: u16, buffer: &mut [u8; 2048]) -> usize
     requires { j < length (figures (design_of source.book.now) (kept_of source.book.now)) }
     ensures { Puts (Nth (figures (design_of source.entry.book.now) (kept_of source.entry.book.now)) j) buffer.old buffer.new result }

@@ -27,7 +27,7 @@ pub struct Place<'a> {
 }
 
 impl Source<'_> {
-    // The forest of the edge after i others, or 0 where it is implied.
+    // The forest of the edge after i others, or 0 where it is implied. (0 and no `None`: a forest of 0 is none in `forest_of` of crate rule.)
     pub fn forest_at(self, i: u16) -> u8
         requires { i < self.book.now.count }
         ensures { result ≡ get_or self.entry.book.now.forests i 0 }

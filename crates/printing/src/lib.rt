@@ -50,7 +50,7 @@ fn after_page(sent: Sent) -> ControlFlow<Sent, Sent>
     }
 }
 
-// The first bytes of a buffer are handed over.
+// The first bytes of a buffer are handed over. (A buffer and a size: so the page answers them, `Written(size)`.)
 fn send_front(sent: Sent, after: State, buffer: &[u8], size: usize) -> Sent
     requires { IsPrefixLen size buffer.now × Sendable sent after (take size buffer.now) }
     ensures { Sends sent after result }
@@ -95,7 +95,7 @@ pub fn send_text(kind: Kind, text: &[u8]) -> Sent
 
 // ---- the programs
 
-// The report or the certificate of what was read.
+// The report or the certificate of what was read. (`got` says how many bytes of the input there are, or that a read failed: `Got` of specs/Sending.antt.)
 fn send_input(kind: Kind, got: std::io::Result<usize>, input: &[u8]) -> Sent
     requires { Got got input.now }
     ensures { InputSent kind got input.now result }

@@ -24,7 +24,7 @@ pub fn has_failed(sent: Sent) -> bool
     sent.failed
 }
 
-// One line on standard error: which program it is, and what went wrong.
+// One line on standard error: which program it is, and what went wrong. (No `Display` of `Kind`: it is written nowhere else.)
 fn complain(kind: Kind, what: &[u8]) {
     match kind {
         Kind::Report => {

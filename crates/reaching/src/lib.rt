@@ -17,7 +17,7 @@ mod waiting;
 
 pub use waiting::Queue;
 
-// Edge e waits among those from place first on, in number order.
+// Edge e waits among those from place first on, in number order. (Put in its place by hand: the list is the queue's own, in fixed memory; `TakesIn` of specs/Laid.antt.)
 fn wait(e: u16, first: usize, size: usize, edges: &mut [u16; 379])
     requires { (first ≤ size) × (size < 379) }
     ensures { TakesIn e first size edges.old edges.new }
@@ -77,7 +77,7 @@ fn try_forest(
 }
 
 // The edge, waiting at a place, tries its forests 1 to last in number order, passing over its own: the first that is free, and else
-// none, and then the edges on its paths wait too. (Inlined by a hint: the book of a light design is a tenth slower without.)
+// none, and then the edges on its paths wait too. (`own` is 0 for the new edge: a forest of 0 is none in `forest_of` of crate rule. Inlined by a hint: the book of a light design is a tenth slower without.)
 #[inline(always)]
 pub fn try_forests(
     own: usize,

@@ -59,7 +59,7 @@ pub fn read(text: &[u8]) -> Read
     }
 }
 
-// A report or a certificate of a text, before its first line.
+// A report or a certificate of a text, before its first line. (A `State` is another type than `Read`, with one number more.)
 pub fn begin(text: &[u8]) -> State
     ensures { Receives text.now result.book result.received × (result.line ≡ 0) }
 {

@@ -110,6 +110,7 @@ fn mark(queue: &Queue, marks: &mut [u64; 9])
 }
 
 // The numbers of a word's bits, counted from base, are written to the list behind the first places, smallest first.
+// (The count beside the `for` is the answer too.)
 fn list_word(base: usize, word: u64, start: usize, list: &mut [u16]) -> usize
     requires { (base ≤ 512) × Coming (λ j. base + j) word start (length list.old) }
     ensures { (t : Coming (λ j. base + j) word start (length list.old))

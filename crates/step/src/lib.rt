@@ -66,7 +66,7 @@ pub fn offer(book: Book, u: usize, v: usize, colour: usize, list: &mut [u16]) ->
     taken(&book, edge, &mut tables, list)
 }
 
-// An edge that passed the checks of a question is sought a place for.
+// An edge that passed the checks of a question is sought a place for. (Its match is beside that of `engine::take`, which moves edges in between.)
 fn sought(book: &Book, edge: Edge, tables: &Tables, list: &mut [u16]) -> Answer
     requires { AskableIn book.now edge list.old tables.now }
     ensures { Question book.now edge list.old list.new result }
