@@ -51,8 +51,14 @@ unfolding count
 placed_first forests zero h = refl
 placed_first forests (suc e) h =
     by_eq (get_or forests e 0) 0
-    (λ q. rw add-one at (count_by_more_no (λ x. not (eqb x 0)) forests e 0 (omega arith) (ap (λ (x : ℕ). not (eqb x 0)) q)) ∙ placed_first forests e (omega arith) ∙ sym (none_placed forests e q))
-    (λ ne. rw add-one at (count_by_more_yes (λ x. not (eqb x 0)) forests e 0 (omega arith) (ap not (ne_eqb (get_or forests e 0) 0 ne))) ∙ ap (λ (x : ℕ). x + 1) (placed_first forests e (omega arith)) ∙ sym (one_placed forests e ne))
+    (λ q.
+    rw add-one at (count_by_more_no (λ x. not (eqb x 0)) forests e 0 (omega arith) (ap (λ (x : ℕ). not (eqb x 0)) q))
+    ∙ placed_first forests e (omega arith)
+    ∙ sym (none_placed forests e q))
+    (λ ne.
+    rw add-one at (count_by_more_yes (λ x. not (eqb x 0)) forests e 0 (omega arith) (ap not (ne_eqb (get_or forests e 0) 0 ne)))
+    ∙ ap (λ (x : ℕ). x + 1) (placed_first forests e (omega arith))
+    ∙ sym (one_placed forests e ne))
 
 -- ---- the figures of a sound book
 
