@@ -9,17 +9,13 @@ use Prim.Native.Nat.{ℕ, zero, suc, ◌+◌, ◌*◌, ◌-◌, ◌≤◌}
 use native.Mathlib.Nat.{mul-le-mul}
 use native.Mathlib.Numerals.{add-one}
 use native.Mathlib.Omega.{arith}
-use lib.ListN.{length, get_or, take}
-use Rattle.std.proofs.Common.{not, eqb}
-use Rattle.std.specs.List.{count_by}
-use Rattle.std.proofs.lemmas.Bool.{ne_eqb}
-use Rattle.std.proofs.lemmas.List.Sums.{count_by_more_no, count_by_more_yes}
+use lib.ListN.{get_or}
 use Rattle.rule.specs.declared.Book.{Book}
 use Rattle.rule.specs.declared.Verdict.TheVariants.{Tight, Loose, OverTight, OverLoose}
 use Rattle.rule.specs.Sets.{isnt, ◌<?◌, Set, one_if, count, at}
 use Rattle.rule.specs.Figures.{freedom, dropped, verdict_on}
 use Rattle.rule.specs.Books.{design_of, forest_of, kept_of, Sound}
-use Rattle.rule.proofs.Tests.{same_test, is_false, lt_of, lt_is, by_eq}
+use Rattle.rule.proofs.Tests.{same_test, is_false, lt_of, lt_is}
 use Rattle.rule.proofs.Counting.{Agree, count_le, count_eq, count_none, count_all, count_sums}
 use Rattle.rule.proofs.Legality.{legal_size}
 use Rattle.theory.proofs.Legal.Kept.{kept_make, kept_has}
@@ -31,34 +27,21 @@ use Rattle.theory.proofs.Legal.Sound.{sound_head, sound_legal}
 abbrev pub placed : List ℕ → Set
 placed forests e = 0 <? at forests e
 
--- one edge more, by what it adds
-module _ (forests : List ℕ) (e : ℕ) where
-  next : (b : Bool) → placed forests (suc e) ≡ b → count (placed forests) (suc e) ≡ count (placed forests) e + one_if b
+module _ (forests : List ℕ) (e found : ℕ) (so_far : found ≡ count (placed forests) e) where
+  -- one edge more, by what it adds
+  next : (b : Bool) → placed forests (suc e) ≡ b → count (placed forests) (e + 1) ≡ found + one_if b
   unfolding count
-  next b q = ap (λ (t : Bool). count (placed forests) e + one_if t) q
+  next b q =
+      ap (count (placed forests)) (add-one e)
+      ∙ ap₂ (λ (x : ℕ) (t : Bool). x + one_if t) (sym so_far) q
 
-  one_placed : get_or forests e 0 ≢ 0 → count (placed forests) (suc e) ≡ count (placed forests) e + 1
+  pub one_placed : get_or forests e 0 ≢ 0 → found + 1 ≡ count (placed forests) (e + 1)
   unfolding at
-  one_placed ne = next true (lt_is 0 (get_or forests e 0) (omega arith))
+  one_placed ne = sym (next true (lt_is 0 (get_or forests e 0) (omega arith)))
 
-  none_placed : get_or forests e 0 ≡ 0 → count (placed forests) (suc e) ≡ count (placed forests) e
+  pub none_placed : get_or forests e 0 ≡ 0 → found ≡ count (placed forests) (e + 1)
   unfolding at
   none_placed q = omega (arith, next false (is_false (placed forests (suc e)) (λ t. omega (arith, lt_of 0 (get_or forests e 0) t))))
-
--- the first places that are not 0 are those of the edges that have a forest
-pub placed_first : (forests : List ℕ) (e : ℕ) → e ≤ length forests → count_by (λ x. not (eqb x 0)) (take e forests) ≡ count (placed forests) e
-unfolding count
-placed_first forests zero h = refl
-placed_first forests (suc e) h =
-    by_eq (get_or forests e 0) 0
-    (λ q.
-    rw add-one at (count_by_more_no (λ x. not (eqb x 0)) forests e 0 (omega arith) (ap (λ (x : ℕ). not (eqb x 0)) q))
-    ∙ placed_first forests e (omega arith)
-    ∙ sym (none_placed forests e q))
-    (λ ne.
-    rw add-one at (count_by_more_yes (λ x. not (eqb x 0)) forests e 0 (omega arith) (ap not (ne_eqb (get_or forests e 0) 0 ne)))
-    ∙ ap (λ (x : ℕ). x + 1) (placed_first forests e (omega arith))
-    ∙ sym (one_placed forests e ne))
 
 -- ---- the figures of a sound book
 

@@ -9,13 +9,18 @@ use crate::sound_alone;
 use rule::{Book, Reason, Verdict};
 
 // How many of the first edges have a forest. (A count and the whole list, not a part of it: `counted .. count` is over the book's list, as the callers' clauses
-// are. `as`: at most 512, and u16 has no `From<usize>`.)
+// are.)
 pub fn kept(count: u16, forests: &[u8; 512]) -> u16
     requires { count ≤ 512 }
     ensures { result ≡ counted (λ e. 0 <? at forests.now e) count }
 {
-    let first = &forests[..usize::from(count)];
-    first.iter().filter(|forest| **forest != 0).count() as u16
+    let mut found: u16 = 0;
+    for forest in &forests[..usize::from(count)] {
+        if *forest != 0 {
+            found += 1;
+        }
+    }
+    found
 }
 
 // The freedom of a sound book, and how many of its edges are implied. (`Sound` is a `requires` of both, of `list_groups` in crate groups and of the private `text_of`

@@ -8,7 +8,8 @@ pub mod say;
 
 ghost use Rattle.std.specs.Prelude.{◌≡◌, ◌≢◌, ◌∷◌, [], take, drop, length, IfSome, MatchOption};
 
-use std::io;
+use say::Output;
+use std::fmt::{self, Write};
 
 // Whether a line says nothing.
 pub fn silent(line: &[u8]) -> bool {
@@ -25,6 +26,6 @@ pub fn name(line: &[u8]) -> Option<&[u8]>
 }
 
 // Writes that a line was not understood, so that a slip of the pen shows: its number in the file, from 1.
-pub fn bad(rt: &impl Print, number: usize) -> io::Result<()> {
-    println!(rt; " bad case, line {number}")
+pub fn bad(out: &mut Output, number: usize) -> fmt::Result {
+    write!(out, " bad case, line {number}\n")
 }

@@ -4,10 +4,29 @@
 ghost use Rattle.std.specs.Prelude.{◌≡◌, take};
 
 use rule::{Answer, Reason, Verdict};
-use std::{fmt, io};
+use std::fmt::{self, Write};
+
+// Standard output, a piece at a time: each piece is a write of its own, and one that fails is passed over, so that those after it are tried all the same.
+// (No `print!`: it gathers the pieces of a text into one write, and where that fails the first of them is lost with the last.)
+#[derive(Clone, Copy)]
+pub struct Output;
+
+impl Output {
+    // Bytes that need not be text, as one piece.
+    pub fn bytes(&mut self, bytes: &[u8]) {
+        io::write_all(1, bytes);
+    }
+}
+
+impl fmt::Write for Output {
+    fn write_str(&mut self, s: &str) -> fmt::Result {
+        self.bytes(s.as_bytes());
+        Ok(())
+    }
+}
 
 // Numbers with commas between.
-#[derive(Drop)]
+#[derive(Clone, Copy)]
 pub struct Numbers<'a, T>(pub &'a [T]);
 
 impl<'a, T> Numbers<'a, T> {
@@ -45,43 +64,69 @@ impl fmt::Display for Refused {
     }
 }
 
-// A verdict, as its line of a report has it.
+// A figure of a book: its value behind the sign.
 #[derive(Clone, Copy)]
-pub struct Word(pub Verdict);
+struct Value<T>(T);
 
-impl fmt::Display for Word {
+impl<T: fmt::Display> fmt::Display for Value<T> {
     fn fmt<W: fmt::Write>(&self, f: &mut fmt::Formatter<W>) -> fmt::Result {
-        for x in reports::word_of(self.0) {
-            f.write_char(char::from(*x))?;
-        }
-        Ok(())
+        write!(f, "={}", self.0)
     }
 }
 
-pub fn answer(rt: &impl Print, said: Answer, list: &[u16]) -> io::Result<()> {
+// A verdict behind the sign, as one piece. (So the words stand here once more: those of `reports::word_of` have no sign in front.)
+#[derive(Clone, Copy)]
+struct Word(Verdict);
+
+impl fmt::Display for Word {
+    fn fmt<W: fmt::Write>(&self, f: &mut fmt::Formatter<W>) -> fmt::Result {
+        f.write_str(match self.0 {
+            Verdict::Tight => "=tight",
+            Verdict::Loose => "=loose",
+            Verdict::OverTight => "=over-tight",
+            Verdict::OverLoose => "=over-loose",
+        })
+    }
+}
+
+pub fn answer(out: &mut Output, said: Answer, list: &[u16]) -> fmt::Result {
     match said {
-        Answer::Kept(_) => print!(rt; " kept"),
-        Answer::Implied(n) => print!(rt; " implied={}", Numbers::first(list, usize::from(n))),
-        Answer::Refused(reason) => print!(rt; "{}", Refused(reason)),
+        Answer::Kept(_) => out.write_str(" kept"),
+        Answer::Implied(n) => write!(out, " implied={}", Numbers::first(list, usize::from(n))),
+        Answer::Refused(reason) => write!(out, "{}", Refused(reason)),
     }
 }
 
 // Nothing where the call did what was asked.
-pub fn done(rt: &impl Print, said: Result<(), Reason>) -> io::Result<()> {
+pub fn done(out: &mut Output, said: Result<(), Reason>) -> fmt::Result {
     match said {
         Ok(()) => Ok(()),
-        Err(reason) => print!(rt; "{}", Refused(reason)),
+        Err(reason) => write!(out, "{}", Refused(reason)),
     }
 }
 
 // What was asked for, and the answer behind it.
-pub fn found<T: fmt::Display + Drop>(
-    rt: &impl Print,
+fn said<T: fmt::Display + Drop>(
+    out: &mut Output,
     what: &str,
-    said: Result<T, Reason>,
-) -> io::Result<()> {
-    match said {
-        Ok(value) => print!(rt; " {what}={value}"),
-        Err(reason) => print!(rt; " {what}{}", Refused(reason)),
+    answer: Result<T, Reason>,
+) -> fmt::Result {
+    out.write_str(what)?;
+    match answer {
+        Ok(value) => write!(out, "{value}"),
+        Err(reason) => write!(out, "{}", Refused(reason)),
     }
+}
+
+// The same with the sign between them.
+pub fn found<T: fmt::Display + Drop>(
+    out: &mut Output,
+    what: &str,
+    answer: Result<T, Reason>,
+) -> fmt::Result {
+    said(out, what, answer.map(Value))
+}
+
+pub fn judged(out: &mut Output, answer: Result<Verdict, Reason>) -> fmt::Result {
+    said(out, " verdict", answer.map(Word))
 }

@@ -44,7 +44,8 @@ impl Scratch {
 // (Book and tables, here and in crates search, circuits and step, are two parameters and no struct of both: `take` changes both, and crate book fills tables that are
 // not the book's yet. `as`, in this file: the numbers are below 512, and no `From` goes that way.)
 // Seeks a place for an edge. Where there is one, the path has the edges to move, last edge first; where there is none, the list holds the
-// circuit.
+// circuit. (Inlined by a hint: an edge that is passed on in memory is stored byte by byte and loaded as a word, and the book of a light design takes a tenth longer.)
+#[inline(always)]
 pub fn seek(
     book: &Book,
     edge: Edge,

@@ -1,12 +1,12 @@
 // The lines of a text, as the file of cases has them: a bar, and then the bytes, with the LF; in front of the bar the number of times that they stand
 // there, where that is not 1. A backslash and the LF stand for nothing, \\ for a backslash, \r for a CR, \t for a tab, \0 for a NUL, and \x with two
 // digits from 0 to f for any byte.
-ghost use Rattle.std.specs.Prelude.{◌≤◌, ◌<◌, IfSome};
+ghost use Rattle.std.specs.Prelude.{◌≡◌, ◌≤◌, ◌<◌, IfSome};
 
 const ROOM: usize = 24576;
 
 // The text of a case so far. What there is no room for is left out. (Bytes and a size: fixed memory.)
-#[derive(Drop)]
+#[derive(Clone, Copy)]
 pub struct Text {
     bytes: [u8; ROOM],
     size: usize,
@@ -19,6 +19,13 @@ impl Text {
             bytes: [0; ROOM],
             size: 0,
         }
+    }
+
+    // The text of another case begins.
+    pub fn clear(&mut self)
+        ensures { self.new.size ≡ 0 }
+    {
+        self.size = 0;
     }
 
     fn push(&mut self, x: u8) {

@@ -5,11 +5,11 @@
 
 mod lay;
 
+use cases::say::Output;
 use lay::Text;
 use pager::Kind;
 use reports::Line;
-use std::fmt;
-use std::io::Result;
+use std::fmt::{self, Result, Write};
 
 // ---- what is written
 
@@ -30,35 +30,36 @@ impl fmt::Display for Shown<'_> {
 }
 
 // The first line of the report.
-fn first_line(rt: &impl Print, book: &[u8]) -> Result<()> {
+fn first_line(out: &mut Output, book: &[u8]) -> Result {
     let mut buffer = [0u8; 2048];
     let stepped = pager::next(Kind::Report, reader::begin(book), &mut buffer);
     match stepped.answer {
-        Line::Written(size) => rt.write_all(&buffer[..size]),
-        Line::Over => println!(rt; "over"),
-        Line::Refused(_) => println!(rt; "refused"),
+        Line::Written(size) => out.bytes(&buffer[..size]),
+        Line::Over => out.bytes(b"over\n"),
+        Line::Refused(_) => out.bytes(b"refused\n"),
     }
+    Ok(())
 }
 
-fn outcome(rt: &impl Print, book: &[u8]) -> Result<()> {
-    print!(rt; " [{}] ", Shown(text::fault(book)))?;
-    first_line(rt, book)
+fn outcome(out: &mut Output, book: &[u8]) -> Result {
+    write!(out, " [{}] ", Shown(text::fault(book)))?;
+    first_line(out, book)
 }
 
 // ---- the file of cases
 
 // The case is whole. A text that was cut is no case.
-fn finish(rt: &impl Print, case: &Option<Text>, number: usize) -> Result<()> {
+fn finish(out: &mut Output, case: &Option<Text>, number: usize) -> Result {
     let Some(text) = case else {
         return Ok(());
     };
     match text.whole() {
-        Some(book) => outcome(rt, book),
-        None => cases::bad(rt, number),
+        Some(book) => outcome(out, book),
+        None => cases::bad(out, number),
     }
 }
 
-fn run(rt: &impl Print, file: &[u8]) -> Result<()> {
+fn run(out: &mut Output, file: &[u8]) -> Result {
     let mut case = None;
     let mut number = 0;
     for (i, line) in file.split_inclusive(|x| *x == b'\n').enumerate() {
@@ -67,23 +68,24 @@ fn run(rt: &impl Print, file: &[u8]) -> Result<()> {
             continue;
         }
         if let Some(name) = cases::name(line) {
-            finish(rt, &case, number)?;
-            rt.write_all(name)?;
-            case = Some(Text::new());
+            finish(out, &case, number)?;
+            out.bytes(name);
+            // (In the same room: to clear it for each case would cost more than most cases do.)
+            case.get_or_insert_with(Text::new).clear();
         } else if case
             .as_mut()
             .and_then(|text| lay::line(line, text))
             .is_none()
         {
-            cases::bad(rt, number)?;
+            cases::bad(out, number)?;
         }
     }
-    finish(rt, &case, number)
+    finish(out, &case, number)
 }
 
-// A write that fails ends the program, and is not told, as it never was. (The writes after it are not tried any more.)
-fn main(rt: HostRuntime) {
+// A write that fails is not told, and those after it are tried.
+fn main() {
     let mut file = [0u8; 65536];
     let n = io::read_full(0, &mut file);
-    let _ = run(&rt, &file[..n]);
+    let _ = run(&mut Output, &file[..n]);
 }

@@ -1,23 +1,23 @@
 // Lines that change the book: calls, with what they answer written, and edits that may damage it.
 use crate::commands::Named;
-use cases::say;
+use cases::say::{self, Output};
 use rule::Book;
-use std::io;
+use std::fmt;
 
 // ---- the calls
 
-pub fn open(rt: &impl Print, [a, b, bodies]: [usize; 3], book: &mut Book) -> io::Result<()> {
+pub fn open(out: &mut Output, [a, b, bodies]: [usize; 3], book: &mut Book) -> fmt::Result {
     let opened = book::open(a, b, bodies);
     *book = opened.book;
-    say::done(rt, opened.answer)
+    say::done(out, opened.answer)
 }
 
 // The edge is offered, and the answer written.
-pub fn offer(rt: &impl Print, edge: Named, book: &mut Book) -> io::Result<()> {
+pub fn offer(out: &mut Output, edge: Named, book: &mut Book) -> fmt::Result {
     let mut list = [0u16; 378];
     let offered = step::offer(*book, edge.one, edge.other, edge.colour, &mut list);
     *book = offered.book;
-    say::answer(rt, offered.answer, &list)
+    say::answer(out, offered.answer, &list)
 }
 
 // ---- large books

@@ -7,30 +7,31 @@ mod asks;
 mod changes;
 mod commands;
 
+use cases::say::Output;
 use commands::Command;
 use rule::Book;
-use std::io::Result;
+use std::fmt::{Result, Write};
 
-fn carry_out(rt: &impl Print, command: Command, book: &mut Book) -> Result<()> {
+fn carry_out(out: &mut Output, command: Command, book: &mut Book) -> Result {
     match command {
-        Command::Open(head) => changes::open(rt, head, book)?,
-        Command::Offer(edge) => changes::offer(rt, edge, book)?,
+        Command::Open(head) => changes::open(out, head, book)?,
+        Command::Offer(edge) => changes::offer(out, edge, book)?,
         Command::Times(edge, times) => changes::several(edge, times, book),
         Command::Pairs(times) => changes::pairs(times, book),
         Command::Head(numbers) => *book = changes::head(numbers),
         Command::Put(place, edge, forest) => changes::put(place, edge, forest, book),
-        Command::Ask(edge, places) => asks::ask(rt, edge, places, book)?,
-        Command::Lent(edge) => asks::lent(rt, edge, book)?,
-        Command::Free => asks::free(rt, book)?,
-        Command::Close => asks::close(rt, book)?,
-        Command::Groups(places) => asks::short_groups(rt, places, book)?,
+        Command::Ask(edge, places) => asks::ask(out, edge, places, book)?,
+        Command::Lent(edge) => asks::lent(out, edge, book)?,
+        Command::Free => asks::free(out, book)?,
+        Command::Close => asks::close(out, book)?,
+        Command::Groups(places) => asks::short_groups(out, places, book)?,
     }
     Ok(())
 }
 
 // A line that begins a case ends the one before. Every case begins with a book of zeros. (A flag beside the book and no `Option`: lines before the first case work on a book
 // too. The walk over lines is hostile's too, with other lines in its match.)
-fn run(rt: &impl Print, file: &[u8]) -> Result<()> {
+fn run(out: &mut Output, file: &[u8]) -> Result {
     let zeros = changes::strewn(0, 0, 0, 0, 0);
     let mut book = zeros;
     let mut begun = false;
@@ -40,23 +41,23 @@ fn run(rt: &impl Print, file: &[u8]) -> Result<()> {
         }
         if let Some(name) = cases::name(line) {
             if begun {
-                println!(rt; "")?;
+                out.write_str("\n")?;
             }
-            rt.write_all(name)?;
+            out.bytes(name);
             book = zeros;
             begun = true;
         } else if let Some(command) = commands::read(line) {
-            carry_out(rt, command, &mut book)?;
+            carry_out(out, command, &mut book)?;
         } else {
-            cases::bad(rt, i + 1)?;
+            cases::bad(out, i + 1)?;
         }
     }
-    println!(rt; "")
+    out.write_str("\n")
 }
 
-// A write that fails ends the program, and is not told, as it never was. (The writes after it are not tried any more.)
-fn main(rt: HostRuntime) {
+// A write that fails is not told, and those after it are tried.
+fn main() {
     let mut file = [0u8; 65536];
     let n = io::read_full(0, &mut file);
-    let _ = run(&rt, &file[..n]);
+    let _ = run(&mut Output, &file[..n]);
 }

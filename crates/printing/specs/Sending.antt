@@ -2,7 +2,7 @@
 --
 -- In order: a text that was read; the page that is next; a turn; all turns; the input.
 use Rattle.std.specs.Prelude.{◌≡◌, Bool, false, true, Result, Ok, Err, List, ℕ, ◌≤◌, length, take}
-use Rattle.std.specs.declared.io.Error.{Error}
+use Rattle.printing.specs.declared.Unread.{Unread}
 use Rattle.std.specs.declared.ops.ControlFlow.{ControlFlow}
 use Rattle.std.specs.declared.ops.ControlFlow.TheVariants.{Continue, Break}
 use Rattle.io.specs.Counts.{IsPrefixLen}
@@ -106,18 +106,18 @@ pub record TextSent (kind : Kind) (text : List ℕ) (r : Sent) : Type 0 where
 -- ---- the input
 
 -- so many bytes of the buffer are the input's
-abbrev pub Got : Result ℕ Error → List ℕ → Type 0
+abbrev pub Got : Result ℕ Unread → List ℕ → Type 0
 Got (Ok n) buffer = IsPrefixLen n buffer
 Got (Err e) buffer = Unit
 
 -- of what was read the lines were handed over; nothing, where a read failed
-abbrev pub InputSent : Kind → Result ℕ Error → List ℕ → Sent → Type 0
+abbrev pub InputSent : Kind → Result ℕ Unread → List ℕ → Sent → Type 0
 InputSent kind (Ok n) buffer r = TextSent kind (take n buffer) r
 InputSent kind (Err e) buffer r = NothingSent kind r
 
 -- of what was read, whatever it was, in a buffer of 8,192 places
 pub record Printed (kind : Kind) (r : Sent) : Type 0 where
-  pub got : Result ℕ Error
+  pub got : Result ℕ Unread
   pub buffer : List ℕ
   pub size : length buffer ≡ 8192
   pub within : Got got buffer

@@ -20,15 +20,25 @@ use std::ops::ControlFlow;
 
 // ---- the input
 
+// A read failed.
+#[derive(Clone, Copy, Debug, PartialEq, Eq)]
+pub struct Unread;
+
+// What was read: so many bytes, up to the end of the input or as many as there are places; or a read failed. (With an error of its own, and not std's, which can't
+// be copied: who holds an input may keep it.)
+pub type Input = Result<usize, Unread>;
+
 // Reads until the buffer is full or the input ends, and answers how many bytes came. A read that fails is told from the end of the input, which
 // io::read_full does not do.
-fn read_input<R: Read>(reader: &mut R, input: &mut [u8]) -> std::io::Result<usize>
+fn read_input<R: Read>(reader: &mut R, input: &mut [u8]) -> Input
     ensures { Got result input.new }
 {
     let mut done: usize = 0;
     // No plainer as a `for`: each turn goes on by as many bytes as came, so that no range and no slice gives the turns.
     while done < input.len() {
-        let more = reader.read(&mut input[done..])?;
+        let Ok(more) = reader.read(&mut input[done..]) else {
+            return Err(Unread);
+        };
         if more == 0 {
             return Ok(done);
         }
@@ -96,13 +106,13 @@ pub fn send_text(kind: Kind, text: &[u8]) -> Sent
 // ---- the programs
 
 // The report or the certificate of what was read. (`got` says how many bytes of the input there are, or that a read failed: `Got` of specs/Sending.antt.)
-fn send_input(kind: Kind, got: std::io::Result<usize>, input: &[u8]) -> Sent
+fn send_input(kind: Kind, got: Input, input: &[u8]) -> Sent
     requires { Got got input.now }
     ensures { InputSent kind got input.now result }
 {
     match got {
         Ok(n) => send_text(kind, &input[..n]),
-        Err(_) => output::unread(kind),
+        Err(Unread) => output::unread(kind),
     }
 }
 

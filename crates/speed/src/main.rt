@@ -95,5 +95,7 @@ fn main(rt: HostRuntime) {
     };
     let times = digit(*a) * 1000 + digit(*b) * 100 + digit(*c) * 10 + digit(*d);
     let sum = repeat(*what, times, text);
-    let _ = println!(rt; "{sum}");
+    // (Two writes, as ever: the second is tried where the first fails.)
+    let _ = print!(rt; "{sum}");
+    let _ = println!(rt; "");
 }

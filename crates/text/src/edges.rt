@@ -3,7 +3,7 @@ ghost use Rattle.std.specs.Prelude.{◌≡◌, length, replicate};
 
 // Edge i, counted from 0, stands at index i of each list: its two bodies and its colour. There is room for the edges of a book.
 // Three lists and not one of edges: `EdgeLists`, `EdgesEntered` and `edges_in` of specs/EdgeLists.antt, of which theorems speak, are of three.
-#[derive(Drop)]
+#[derive(Clone, Copy)]
 pub struct Edges {
     pub ones: [u8; 512],
     pub others: [u8; 512],
