@@ -70,7 +70,7 @@ fn run(out: &mut Output, file: &[u8]) -> Result {
         if let Some(name) = cases::name(line) {
             finish(out, &case, number)?;
             out.bytes(name);
-            // (In the same room: to clear it for each case would cost more than most cases do.)
+            // (In the same room, which is cleared once and not for each case.)
             case.get_or_insert_with(Text::new).clear();
         } else if case
             .as_mut()
