@@ -5,11 +5,14 @@
 
 pub mod keys;
 pub mod say;
+#[cfg(test)]
+mod tests;
 
 ghost use Rattle.std.specs.Prelude.{◌≡◌, ◌≢◌, ◌∷◌, [], take, drop, length, IfSome, MatchOption};
 
 use say::Output;
 use std::fmt::{self, Write};
+use std::io;
 
 // Whether a line says nothing.
 pub fn silent(line: &[u8]) -> bool {
@@ -26,6 +29,11 @@ pub fn name(line: &[u8]) -> Option<&[u8]>
 }
 
 // Writes that a line was not understood, so that a slip of the pen shows: its number in the file, from 1.
-pub fn bad(out: &mut Output, number: usize) -> fmt::Result {
+pub fn bad(rt: &impl Print, number: usize) -> io::Result<()> {
+    println!(rt; " bad case, line {number}")
+}
+
+// The same, piece by piece.
+pub fn bad_in_pieces(out: &mut Output, number: usize) -> fmt::Result {
     write!(out, " bad case, line {number}\n")
 }

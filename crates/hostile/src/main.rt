@@ -55,7 +55,7 @@ fn finish(out: &mut Output, case: &Option<Text>, number: usize) -> Result {
     };
     match text.whole() {
         Some(book) => outcome(out, book),
-        None => cases::bad(out, number),
+        None => cases::bad_in_pieces(out, number),
     }
 }
 
@@ -77,7 +77,7 @@ fn run(out: &mut Output, file: &[u8]) -> Result {
             .and_then(|text| lay::line(line, text))
             .is_none()
         {
-            cases::bad(out, number)?;
+            cases::bad_in_pieces(out, number)?;
         }
     }
     finish(out, &case, number)

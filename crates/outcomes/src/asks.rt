@@ -12,17 +12,17 @@ pub fn ask(out: &mut Output, edge: Named, places: usize, book: &Book) -> fmt::Re
     };
     let asked = step::question(*book, edge.one, edge.other, edge.colour, list);
     out.write_str(" question")?;
-    say::answer(out, asked, list)?;
+    say::answer_in_pieces(out, asked, list)?;
     let offered = step::offer(*book, edge.one, edge.other, edge.colour, list);
     out.write_str(" offer")?;
-    say::answer(out, offered.answer, list)
+    say::answer_in_pieces(out, offered.answer, list)
 }
 
 // An edge is offered with a list of sevens, whose first places are written then: past the answer they are sevens still.
 pub fn lent(out: &mut Output, edge: Named, book: &Book) -> fmt::Result {
     let mut list = [7u16; 380];
     let offered = step::offer(*book, edge.one, edge.other, edge.colour, &mut list);
-    say::answer(out, offered.answer, &list)?;
+    say::answer_in_pieces(out, offered.answer, &list)?;
     write!(out, " list={}", Numbers(&list[..4]))
 }
 
@@ -30,7 +30,7 @@ pub fn lent(out: &mut Output, edge: Named, book: &Book) -> fmt::Result {
 pub fn short_groups(out: &mut Output, places: usize, book: &Book) -> fmt::Result {
     let mut space = [0u8; 64];
     match space.get_mut(..places) {
-        Some(list) => say::done(out, groups::groups(*book, list)),
+        Some(list) => say::done_in_pieces(out, groups::groups(*book, list)),
         None => Ok(()),
     }
 }
@@ -39,17 +39,17 @@ fn group_list(out: &mut Output, book: &Book) -> fmt::Result {
     let mut list = [0u8; 64];
     let grouped = groups::groups(*book, &mut list);
     let leaders = Numbers::first(&list, usize::from(book.n));
-    say::found(out, " groups", grouped.map(|()| leaders))
+    say::found_in_pieces(out, " groups", grouped.map(|()| leaders))
 }
 
 pub fn free(out: &mut Output, book: &Book) -> fmt::Result {
-    say::found(out, " free", book::freedom(*book))
+    say::found_in_pieces(out, " free", book::freedom(*book))
 }
 
 // Everything that is asked of a book at its end.
 pub fn close(out: &mut Output, book: &Book) -> fmt::Result {
     free(out, book)?;
-    say::found(out, " dropped", book::dropped(*book))?;
+    say::found_in_pieces(out, " dropped", book::dropped(*book))?;
     say::judged(out, book::verdict(*book))?;
     group_list(out, book)
 }

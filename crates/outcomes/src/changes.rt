@@ -9,7 +9,7 @@ use std::fmt;
 pub fn open(out: &mut Output, [a, b, bodies]: [usize; 3], book: &mut Book) -> fmt::Result {
     let opened = book::open(a, b, bodies);
     *book = opened.book;
-    say::done(out, opened.answer)
+    say::done_in_pieces(out, opened.answer)
 }
 
 // The edge is offered, and the answer written.
@@ -17,7 +17,7 @@ pub fn offer(out: &mut Output, edge: Named, book: &mut Book) -> fmt::Result {
     let mut list = [0u16; 378];
     let offered = step::offer(*book, edge.one, edge.other, edge.colour, &mut list);
     *book = offered.book;
-    say::answer(out, offered.answer, &list)
+    say::answer_in_pieces(out, offered.answer, &list)
 }
 
 // ---- large books

@@ -49,7 +49,7 @@ fn run(out: &mut Output, file: &[u8]) -> Result {
         } else if let Some(command) = commands::read(line) {
             carry_out(out, command, &mut book)?;
         } else {
-            cases::bad(out, i + 1)?;
+            cases::bad_in_pieces(out, i + 1)?;
         }
     }
     out.write_str("\n")

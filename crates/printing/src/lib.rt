@@ -24,8 +24,8 @@ use std::ops::ControlFlow;
 #[derive(Clone, Copy, Debug, PartialEq, Eq)]
 pub struct Unread;
 
-// What was read: so many bytes, up to the end of the input or as many as there are places; or a read failed. (With an error of its own, and not std's, which can't
-// be copied: who holds an input may keep it.)
+// What was read: so many bytes, up to the end of the input or as many as there are places; or a read failed. (With an error of its own: that a read failed is all
+// that is told.)
 pub type Input = Result<usize, Unread>;
 
 // Reads until the buffer is full or the input ends, and answers how many bytes came. A read that fails is told from the end of the input, which
