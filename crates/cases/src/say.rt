@@ -14,7 +14,7 @@ use std::fmt::{self, Write};
 use std::io;
 
 // Standard output, a piece at a time: each piece is a write of its own, and one that fails is passed over, so that those after it are tried all the same.
-// (No `print!`: it gathers the pieces of a text into one write, and where that fails the first of them is lost with the last.)
+// (No `print!`: it gathers the pieces of a text before it writes, and where that fails the first of them is lost with the last.)
 #[derive(Clone, Copy)]
 pub struct Output;
 
@@ -71,7 +71,7 @@ impl fmt::Display for Refused {
     }
 }
 
-// ---- to any `Print`: what is said is one write, and where it fails the error is handed back
+// ---- to any `Print`: what is said is one call of it, and where that fails the error is handed back
 
 // A verdict, as its line of a report has it.
 #[derive(Clone, Copy)]
